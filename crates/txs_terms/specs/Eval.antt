@@ -1,0 +1,199 @@
+-- Evaluation by value, from left to right, with limits of height and nodes.
+use Rattle.std.specs.Prelude.{◌≡◌, ℕ, zero, suc, ◌^◌, ℤ, pos, negsuc, ◌+ℤ◌, ◌-ℤ◌, ◌*ℤ◌, neg_ℤ, int_div, int_rem, Bool, true, false, ◌&&◌, not, cond, ltb, eqb, List, [], ◌∷◌, ◌++◌, length, Option, Some, None, slice_get, int_lt, int_le, chars, encode_utf8}
+use Rattle.txs_values.specs.Value.{Ty, whole, truth, string, named, Value, num, bool, text, cons, listed, packed, size, height, Table, same_value, fits, value_size_limit, value_height_limit}
+use Rattle.txs_values.specs.Text.{text_of}
+use Rattle.txs_values.specs.Spelling.{read_text}
+use Rattle.txs_terms.specs.Expr.{Unary, negate, negation, to_text, from_text, len, is_made_by, select, Binary, plus, minus, times, divide, remainder, concat, differ, less_than, at_most, more_than, at_least, char_at, Expr, val, slot, local, constant, one, two, equal, both, either, choose, apply, build, let_in, Exprs, none, more, put, with_local, filled}
+
+-- the types, the functions, each body over its parameters, and the constants
+pub record Defs : Type 0 where
+  pub table : Table
+  pub functions : List Expr
+  pub constants : List Expr
+
+-- `wrong` is met by no expression that is well typed
+pub data Fault : Type 0 where
+  division : Fault
+  range : Fault
+  selector : Fault
+  form : Fault
+  high : Fault
+  long : Fault
+  big : Fault
+  wrong : Fault
+
+pub data Outcome : Type 0 where
+  fine : Value → Outcome
+  broken : Fault → Outcome
+
+-- how an evaluation ends: a value with the nodes entered so far, or a fault
+pub data Run : Type 0 where
+  got : Value → ℕ → Run
+  bad : Fault → Run
+
+pub data Runs : Type 0 where
+  gots : List Value → ℕ → Runs
+  bads : Fault → Runs
+
+unfoldable pub height_limit : ℕ
+height_limit = 1000
+
+unfoldable pub node_limit : ℕ
+node_limit = 1000000
+
+-- ---- the operators
+
+-- an Int, where the number is in range
+abbrev pub in_range : ℤ → Outcome
+in_range x = cond (fits x) (fine (num x)) (broken range)
+
+-- not too large
+abbrev pub sized : Value → Outcome
+sized v = cond (ltb value_size_limit (size v)) (broken big) (cond (ltb value_height_limit (height v)) (broken big) (fine v))
+
+abbrev pub selected : Option Value → Outcome
+selected None = broken selector
+selected (Some v) = fine v
+
+abbrev pub spelled : Option Value → Outcome
+spelled None = broken form
+spelled (Some v) = fine v
+
+abbrev pub text_to : Table → Ty → List ℕ → Outcome
+text_to table string bs = fine (text bs)
+text_to table whole bs = spelled (read_text table whole bs)
+text_to table truth bs = spelled (read_text table truth bs)
+text_to table (named k) bs = spelled (read_text table (named k) bs)
+
+abbrev pub unary : Table → Unary → Value → Outcome
+unary table negate (num x) = in_range (neg_ℤ x)
+unary table negation (bool b) = fine (bool (not b))
+unary table to_text (text bs) = fine (text bs)
+unary table to_text (num x) = sized (text (text_of table (num x)))
+unary table to_text (bool b) = sized (text (text_of table (bool b)))
+unary table to_text (cons c vs) = sized (text (text_of table (cons c vs)))
+unary table (from_text ty) (text bs) = text_to table ty bs
+unary table len (text bs) = in_range (pos (length (chars bs)))
+unary table (is_made_by c) (cons d vs) = fine (bool (eqb c d))
+unary table (select c i) (cons d vs) = cond (eqb c d) (selected (slice_get (listed vs) i)) (broken selector)
+unary table _ _ = broken wrong
+
+abbrev pub char_of : Option ℕ → Outcome
+char_of None = broken selector
+char_of (Some c) = fine (text (encode_utf8 c))
+
+abbrev pub char_from : List ℕ → ℤ → Outcome
+char_from bs (pos i) = char_of (slice_get (chars bs) i)
+char_from bs (negsuc i) = broken selector
+
+abbrev pub divided : Binary → ℤ → ℤ → Outcome
+divided divide x (pos zero) = broken division
+divided remainder x (pos zero) = broken division
+divided divide x y = in_range (int_div x y)
+divided remainder x y = in_range (int_rem x y)
+divided _ x y = broken wrong
+
+abbrev pub whole_binary : Binary → ℤ → ℤ → Outcome
+whole_binary plus x y = in_range (x +ℤ y)
+whole_binary minus x y = in_range (x -ℤ y)
+whole_binary times x y = in_range (x *ℤ y)
+whole_binary divide x y = divided divide x y
+whole_binary remainder x y = divided remainder x y
+whole_binary less_than x y = fine (bool (int_lt x y))
+whole_binary at_most x y = fine (bool (int_le x y))
+whole_binary more_than x y = fine (bool (int_lt y x))
+whole_binary at_least x y = fine (bool (int_le y x))
+whole_binary differ x y = fine (bool (not (same_value (num x) (num y))))
+whole_binary _ x y = broken wrong
+
+abbrev pub text_binary : Binary → List ℕ → List ℕ → Outcome
+text_binary concat a b = sized (text (a ++ b))
+text_binary differ a b = fine (bool (not (same_value (text a) (text b))))
+text_binary _ a b = broken wrong
+
+abbrev pub other_binary : Binary → Value → Value → Outcome
+other_binary differ x y = fine (bool (not (same_value x y)))
+other_binary _ x y = broken wrong
+
+abbrev pub binary : Binary → Value → Value → Outcome
+binary o (num x) (num y) = whole_binary o x y
+binary o (text a) (text b) = text_binary o a b
+binary char_at (text a) (num i) = char_from a i
+binary o x y = other_binary o x y
+
+-- ---- runs
+
+abbrev pub after : Outcome → ℕ → Run
+after (fine v) n = got v n
+after (broken f) n = bad f
+
+abbrev pub then_run : Run → (Value → ℕ → Run) → Run
+then_run (got v n) go = go v n
+then_run (bad f) go = bad f
+
+abbrev pub then_runs : Runs → (List Value → ℕ → Run) → Run
+then_runs (gots vs n) go = go vs n
+then_runs (bads f) go = bad f
+
+abbrev pub Eval : Type 0
+Eval = Expr → ℕ → Run
+
+abbrev pub with_first : Value → Runs → Runs
+with_first v (gots vs n) = gots (v ∷ vs) n
+with_first v (bads f) = bads f
+
+abbrev pub cons_run : Run → (ℕ → Runs) → Runs
+cons_run (bad f) go = bads f
+cons_run (got v n) go = with_first v (go n)
+
+-- each in order
+abbrev pub each : Eval → Exprs → ℕ → Runs
+each ev none n = gots [] n
+each ev (more e es) n = cons_run (ev e n) (each ev es)
+
+abbrev pub if_true : Value → Run → Run → Run
+if_true (num x) a b = bad wrong
+if_true (bool true) a b = a
+if_true (bool false) a b = b
+if_true (text bs) a b = bad wrong
+if_true (cons c vs) a b = bad wrong
+
+abbrev pub body_run : Option Expr → (Expr → Run) → Run
+body_run None go = bad wrong
+body_run (Some e) go = go e
+
+-- one node, which is entered; `ev` evaluates one level below it
+abbrev pub node : Defs → Eval → Expr → ℕ → Run
+node defs ev (val v) n = got v n
+node defs ev (slot i) n = bad wrong
+node defs ev (local i) n = bad wrong
+node defs ev (constant k) n = body_run (slice_get defs.constants k) (λ e. ev e n)
+node defs ev (one o a) n = then_run (ev a n) (λ x. after (unary defs.table o x))
+node defs ev (two o a b) n = then_run (ev a n) (λ x m. then_run (ev b m) (λ y. after (binary o x y)))
+node defs ev (equal a b) n = then_run (ev a n) (λ x m. then_run (ev b m) (λ y. got (bool (same_value x y))))
+node defs ev (both a b) n = then_run (ev a n) (λ x m. if_true x (ev b m) (got (bool false) m))
+node defs ev (either a b) n = then_run (ev a n) (λ x m. if_true x (got (bool true) m) (ev b m))
+node defs ev (choose c a b) n = then_run (ev c n) (λ x m. if_true x (ev a m) (ev b m))
+node defs ev (apply f es) n =
+    then_runs (each ev es n) (λ vs m. body_run (slice_get defs.functions f) (λ e. ev (put (filled vs) e) m))
+node defs ev (build c es) n = then_runs (each ev es n) (λ vs. after (sized (cons c (packed vs))))
+node defs ev (let_in x a b) n = then_run (ev a n) (λ v. ev (with_local v b))
+
+-- the value of an expression, where `left` more levels may be entered and `n` nodes were
+abbrev pub run : Defs → ℕ → Eval
+run defs zero e n = bad high
+run defs (suc left) e n = cond (ltb n node_limit) (node defs (run defs left) e (suc n)) (bad long)
+
+abbrev pub eval : Defs → Expr → Run
+eval defs e = run defs height_limit e 0
+
+abbrev pub Gives : Defs → Expr → Value → Type 0
+Gives defs e v = (n : ℕ) × (eval defs e ≡ got v n)
+
+abbrev pub bool_true : Value
+bool_true = bool true
+
+-- each conjunct gives True
+abbrev pub Hold : Defs → List Expr → Type 0
+Hold defs [] = Unit {0}
+Hold defs (e ∷ es) = Gives defs e bool_true × Hold defs es

@@ -1,0 +1,2 @@
+//! Terms, actions, the rules of behaviour, and what may be observed after a trace.
+#![tactic(auto)]
