@@ -1,0 +1,132 @@
+-- Courses of the reference run: what happens from one state to another, and what comes of it.
+use Rattle.std.specs.Prelude.{◌≡◌, ◌⊎◌, ℕ, ℤ, Bool, true, false, ◌||◌, is_ok, List, [], ◌∷◌, ◌++◌, Option, Some, None}
+use Rattle.std.specs.Option.{option_map}
+use Rattle.txs_outside.specs.declared.sut.Heard.{Heard}
+use Rattle.txs_outside.specs.declared.sut.Heard.TheVariants as heard
+use Rattle.txs_outside.specs.declared.sut.SutCall.{SutCall}
+use Rattle.txs_outside.specs.declared.sut.SutCall.TheVariants as call
+use Rattle.txs_outside.specs.declared.sut.SutEntry.{SutEntry}
+use Rattle.txs_outside.specs.declared.sut.Ends.{Ends}
+use Rattle.txs_outside.specs.Calls.{number_of, more}
+use Rattle.txs_drive.specs.declared.doing.Doing.{Doing}
+use Rattle.txs_drive.specs.declared.doing.Doing.TheVariants.{Say, Dial, Wait, Send, HangUp, Idle, Quit}
+use Rattle.txs_drive.specs.declared.model.Model.{Model}
+use Rattle.txs_drive.specs.declared.note.Note.{Note}
+use Rattle.txs_drive.specs.declared.note.Note.TheVariants as note
+use Rattle.txs_drive.specs.declared.note.Ending.TheVariants.{Link}
+use Rattle.txs_drive.specs.Commands.{command_of}
+use Rattle.txs_drive.specs.Lines.{line_of, sent_line}
+use Rattle.txs_drive.specs.Session.{Run, State, does, goes_on, Carries, dial_told, send_told, Heeds, is_fail, done}
+
+-- a command line is read, a doing that asks nothing is done, or a call on the system is answered
+pub data Event : Type 0 where
+  reads : List ℕ → Event
+  does' : Doing → Event
+  dials : Bool → Event
+  waits : Heard → Event
+  sends : ℤ → Bool → Event
+
+-- the doings that ask the system nothing
+abbrev pub asks_nothing : Doing → Bool
+asks_nothing (Say n) = true
+asks_nothing Dial = false
+asks_nothing Wait = false
+asks_nothing (Send v) = false
+asks_nothing HangUp = true
+asks_nothing Idle = true
+asks_nothing Quit = true
+
+-- From one state these events lead to another. A line is read where nothing is left to be done.
+pub data Leads (m : Model) : State → List Event → State → Type 0 where
+  stays : {s : State} → Leads m s [] s
+  reading : {s t u : State} {es : List Event} (line : List ℕ)
+      → s.todo ≡ [] → Carries m (command_of m line) s u → Leads m u es t → Leads m s (reads line ∷ es) t
+  doing : {s t : State} {es : List Event} (d : Doing) (more : List Doing)
+      → s.todo ≡ d ∷ more → asks_nothing d ≡ true → Leads m (done d more s) es t → Leads m s (does' d ∷ es) t
+  dialling : {s t : State} {es : List Event} (ok : Bool) (r : Run)
+      → s.todo ≡ Dial ∷ [] → s.run ≡ Some r → Leads m (dial_told ok r s) es t → Leads m s (dials ok ∷ es) t
+  waiting : {s t u : State} {es : List Event} (h : Heard) (r : Run)
+      → s.todo ≡ Wait ∷ [] → s.run ≡ Some r → Heeds m h r s u → Leads m u es t → Leads m s (waits h ∷ es) t
+  sending : {s t : State} {es : List Event} (v : ℤ) (ok : Bool) (r : Run)
+      → s.todo ≡ Send v ∷ [] → s.run ≡ Some r → Leads m (send_told v ok r s) es t → Leads m s (sends v ok ∷ es) t
+
+-- ---- what comes of events
+
+-- the lines read
+abbrev pub lines_in : List Event → List (List ℕ)
+lines_in [] = []
+lines_in (reads line ∷ es) = line ∷ lines_in es
+lines_in (does' d ∷ es) = lines_in es
+lines_in (dials ok ∷ es) = lines_in es
+lines_in (waits h ∷ es) = lines_in es
+lines_in (sends v ok ∷ es) = lines_in es
+
+-- the notes written, in order
+abbrev pub notes_of : Doing → List Note
+notes_of (Say n) = n ∷ []
+notes_of _ = []
+
+abbrev pub notes_in : List Event → List Note
+notes_in [] = []
+notes_in (reads line ∷ es) = notes_in es
+notes_in (does' d ∷ es) = notes_of d ++ notes_in es
+notes_in (dials ok ∷ es) = notes_in es
+notes_in (waits h ∷ es) = notes_in es
+notes_in (sends v ok ∷ es) = notes_in es
+
+-- the text of notes
+abbrev pub text_of : Model → List Note → List ℕ
+text_of m [] = []
+text_of m (n ∷ ns) = line_of m n ++ text_of m ns
+
+-- whether FAIL is among notes
+abbrev pub has_fail : List Note → Bool
+has_fail [] = false
+has_fail (n ∷ ns) = is_fail n || has_fail ns
+
+-- a note is among those written
+abbrev pub IsNoted : Note → List Note → Type 0
+IsNoted n [] = ⊥
+IsNoted n (x ∷ xs) = (n ≡ x) ⊎ IsNoted n xs
+
+-- the one end of the connection
+abbrev pub ends_of : Model → Ends
+ends_of m = record { listen = false; list = (record { host = m.host; port = m.port }) ∷ [] }
+
+-- the number of `hang_up`s after a doing
+abbrev pub hung_by : Doing → Option ℕ → Option ℕ
+hung_by HangUp h = option_map more h
+hung_by _ h = h
+
+-- the number of `hang_up`s after events, where it is told
+abbrev pub hung_after : List Event → Option ℕ → Option ℕ
+hung_after [] h = h
+hung_after (reads line ∷ es) h = hung_after es h
+hung_after (does' d ∷ es) h = hung_after es (hung_by d h)
+hung_after (dials ok ∷ es) h = hung_after es h
+hung_after (waits h ∷ es) k = hung_after es k
+hung_after (sends v ok ∷ es) h = hung_after es h
+
+abbrev pub entry : Option ℕ → SutCall → SutEntry
+entry h c = record { call = c; hang_ups = number_of h }
+
+-- the calls on the system, each with its answer and the number of `hang_up`s before it
+abbrev pub calls_in : Model → List Event → Option ℕ → List SutEntry
+calls_in m [] h = []
+calls_in m (reads line ∷ es) h = calls_in m es h
+calls_in m (does' d ∷ es) h = calls_in m es (hung_by d h)
+calls_in m (dials ok ∷ es) h = entry h (call.Dial (ends_of m) ok) ∷ calls_in m es h
+calls_in m (waits x ∷ es) h = entry h (call.Wait 4096 x) ∷ calls_in m es h
+calls_in m (sends v ok ∷ es) h = entry h (call.Send 0 (sent_line v) ok) ∷ calls_in m es h
+
+-- a call of the system failed
+abbrev pub IsFailed : Event → Type 0
+IsFailed (reads line) = ⊥
+IsFailed (does' d) = ⊥
+IsFailed (dials ok) = ok ≡ false
+IsFailed (waits h) = h ≡ heard.Failed
+IsFailed (sends v ok) = ok ≡ false
+
+abbrev pub AnyFailed : List Event → Type 0
+AnyFailed [] = ⊥
+AnyFailed (e ∷ es) = IsFailed e ⊎ AnyFailed es

@@ -1,0 +1,83 @@
+-- What a session of a model did: all that it wrote and called, and its status, as the reference run has it.
+use Rattle.std.specs.Prelude.{◌≡◌, ◌⊎◌, ℕ, zero, suc, ◌+◌, ◌≤◌, Bool, true, false, cond, eqb, List, [], ◌∷◌, ◌++◌, length, Option, Some, None}
+use Rattle.txs_outside.specs.Causes.{Rose}
+use Rattle.txs_outside.specs.Known.{Grows, Adds}
+use Rattle.txs_outside.specs.declared.sut.SutEntry.{SutEntry}
+use Rattle.txs_drive.specs.declared.doing.Doing.TheVariants.{HangUp}
+use Rattle.txs_drive.specs.declared.model.Model.{Model}
+use Rattle.txs_drive.specs.declared.note.Note.TheVariants as note
+use Rattle.txs_drive.specs.declared.note.Ending.TheVariants.{Link, Fail}
+use Rattle.txs_drive.specs.Session.{State, first, dialled_of}
+use Rattle.txs_drive.specs.Course.{Event, does', Leads, lines_in, notes_in, text_of, has_fail, IsNoted, hung_after, calls_in}
+
+-- ---- command bytes
+
+-- how the command bytes end: not yet, by the source's end, by a read fault, or by the limit of bytes
+pub data Ending : Type 0 where
+  open' : Ending
+  end : Ending
+  fault : Ending
+  limit : Ending
+
+abbrev pub onto_first : ℕ → List (List ℕ) → List (List ℕ)
+onto_first b [] = (b ∷ []) ∷ []
+onto_first b (line ∷ lines) = (b ∷ line) ∷ lines
+
+-- the parts between line feeds; the last of them is not finished
+abbrev pub parts : List ℕ → List (List ℕ)
+parts [] = [] ∷ []
+parts (b ∷ bs) = cond (eqb b 10) ([] ∷ parts bs) (onto_first b (parts bs))
+
+-- the last part is a line where the source ended, and it has bytes
+abbrev pub last_part : Ending → List ℕ → List (List ℕ)
+last_part end [] = []
+last_part end (b ∷ bs) = (b ∷ bs) ∷ []
+last_part open' line = []
+last_part fault line = []
+last_part limit line = []
+
+abbrev pub lines_of_parts : Ending → List (List ℕ) → List (List ℕ)
+lines_of_parts e [] = []
+lines_of_parts e (line ∷ []) = last_part e line
+lines_of_parts e (line ∷ next ∷ more) = line ∷ lines_of_parts e (next ∷ more)
+
+-- the command lines of these bytes
+abbrev pub command_lines : List ℕ → Ending → List (List ℕ)
+command_lines bytes e = lines_of_parts e (parts bytes)
+
+-- the most bytes of commands that are carried out
+unfoldable pub byte_limit : ℕ
+byte_limit = 16777216
+
+-- The source gave these bytes as commands, and at the limit one byte past them.
+abbrev pub Gave : Ending → List ℕ → List ℕ → Type 0
+Gave limit given commands = (b : ℕ) × (given ≡ commands ++ b ∷ []) × (length commands ≡ byte_limit)
+Gave open' given commands = (given ≡ commands) × (length commands ≤ byte_limit)
+Gave end given commands = (given ≡ commands) × (length commands ≤ byte_limit)
+Gave fault given commands = (given ≡ commands) × (length commands ≤ byte_limit)
+
+-- ---- how a session comes to rest
+
+-- all lines are carried out, or a `quit` was met; so the reference run does not stand still
+abbrev pub Rests : Bool → State → List (List ℕ) → List Event → Type 0
+Rests false s more es = (s.todo ≡ []) × (more ≡ [])
+Rests true s more es = (s.todo ≡ []) × (before : List Event) × (es ≡ before ++ does' Quit' ∷ [])
+  where
+    Quit' = Rattle.txs_drive.specs.declared.doing.Doing.TheVariants.Quit
+
+-- the status by how the commands ended, whether a `quit` was met, and whether FAIL was written
+abbrev pub by_fail : Bool → ℕ
+by_fail true = 10
+by_fail false = 0
+
+abbrev pub status_of : Ending → Bool → Bool → Option ℕ
+status_of e true failed = Some (by_fail failed)
+status_of open' false failed = None
+status_of end false failed = Some (by_fail failed)
+status_of fault false failed = Some 3
+status_of limit false failed = Some 6
+
+-- where the ends are still dialled at the session's end, they are hung up last
+abbrev pub last_of : ℕ → List Event
+last_of zero = []
+last_of (suc n) = does' HangUp ∷ []

@@ -1,0 +1,158 @@
+-- What a session does for its commands, for what the system tells: the steps of the reference run.
+use Rattle.std.specs.Prelude.{◌≡◌, ◌⊎◌, ℕ, suc, ◌+◌, ℤ, Bool, true, false, ◌||◌, cond, eqb, nat_lt, List, [], ◌∷◌, ◌++◌, length, Option, Some, None}
+use Rattle.txs_outside.specs.declared.sut.Heard.{Heard}
+use Rattle.txs_outside.specs.declared.sut.Heard.TheVariants as heard
+use Rattle.txs_drive.specs.declared.note.Seen.{Seen}
+use Rattle.txs_drive.specs.declared.note.Seen.TheVariants as seen
+use Rattle.txs_drive.specs.declared.note.Ending.{Ending}
+use Rattle.txs_drive.specs.declared.note.Ending.TheVariants.{Fail, Link, Later}
+use Rattle.txs_drive.specs.declared.note.Note.{Note}
+use Rattle.txs_drive.specs.declared.note.Note.TheVariants as note
+use Rattle.txs_drive.specs.declared.doing.Doing.{Doing}
+use Rattle.txs_drive.specs.declared.doing.Doing.TheVariants.{Say, Dial, Wait, Send, HangUp, Idle, Quit}
+use Rattle.txs_drive.specs.declared.command.Command.{Command}
+use Rattle.txs_drive.specs.declared.command.Command.TheVariants as command
+use Rattle.txs_drive.specs.declared.model.Model.{Model}
+use Rattle.txs_drive.specs.Parts.{cut_at}
+use Rattle.txs_drive.specs.Commands.{command_of, spelled}
+use Rattle.txs_drive.specs.Allowed.{MaySend, MaySee}
+
+-- what was numbered, whether the run has ended, and how many ends are dialled
+pub record Run : Type 0 where
+  pub trace : List Seen
+  pub is_over : Bool
+  pub dialled : ℕ
+
+-- a session between two steps: its run, whether FAIL was written, and what is still to be done, in order
+pub record State : Type 0 where
+  pub run : Option Run
+  pub has_failed : Bool
+  pub todo : List Doing
+
+abbrev pub first : State
+first = record { run = None; has_failed = false; todo = [] }
+
+abbrev pub new_run : Run
+new_run = record { trace = []; is_over = false; dialled = 0 }
+
+abbrev pub does : List Doing → State → State
+does doings s = record { run = s.run; has_failed = s.has_failed; todo = doings }
+
+abbrev pub goes_on : Run → List Doing → State → State
+goes_on r doings s = record { run = Some r; has_failed = s.has_failed; todo = doings }
+
+abbrev pub seen_run : Seen → Run → Run
+seen_run x r = record { trace = r.trace ++ x ∷ []; is_over = r.is_over; dialled = r.dialled }
+
+abbrev pub over_run : Run → Run
+over_run r = record { trace = r.trace; is_over = true; dialled = r.dialled }
+
+abbrev pub with_dialled : ℕ → Run → Run
+with_dialled n r = record { trace = r.trace; is_over = r.is_over; dialled = n }
+
+-- the ends are hung up where they are dialled
+abbrev pub hanging : ℕ → List Doing
+hanging n = cond (nat_lt 0 n) (HangUp ∷ []) []
+
+abbrev pub dialled_of : Option Run → ℕ
+dialled_of None = 0
+dialled_of (Some r) = r.dialled
+
+-- the run ends: its line is written, and the ends are hung up
+abbrev pub ends_with : Ending → Run → List Doing
+ends_with e r = Say (note.Ended e) ∷ (hanging r.dialled ++ Idle ∷ [])
+
+-- ---- a command line
+
+abbrev pub refused : State → State
+refused s = does (Say note.NotCommand ∷ Idle ∷ []) s
+
+-- a command that needs a run which goes on
+abbrev pub IfGoing : Option Run → State → (Run → State → Type 0) → State → Type 0
+IfGoing None s go t = t ≡ refused s
+IfGoing (Some r) s go t = (r.is_over ≡ true) × (t ≡ refused s) ⊎ ((r.is_over ≡ false) × go r t)
+
+-- an action is sent exactly where the rules allow it after the trace
+abbrev pub Stimulates : Model → ℤ → State → Run → State → Type 0
+Stimulates m v s r t =
+    MaySend m r.trace v × (t ≡ does (Send v ∷ []) s)
+    ⊎ ((MaySend m r.trace v → ⊥) × (t ≡ does (Say note.NotAllowed ∷ Idle ∷ []) s))
+
+-- a run begins, where there is none
+abbrev pub started : Option Run → State → State
+started None s = record { run = Some new_run; has_failed = s.has_failed; todo = Say note.Tester ∷ Dial ∷ [] }
+started (Some r) s = refused s
+
+-- what a command leaves to be done
+abbrev pub Carries : Model → Command → State → State → Type 0
+Carries m command.Pass s t = t ≡ does (Idle ∷ []) s
+Carries m command.Quit s t = t ≡ does (hanging (dialled_of s.run) ++ Quit ∷ []) s
+Carries m command.Refused s t = t ≡ refused s
+Carries m command.Tester s t = t ≡ started s.run s
+Carries m command.Observe s t = IfGoing s.run s (λ r t. t ≡ does (Wait ∷ []) s) t
+Carries m (command.Stimulate v) s t = IfGoing s.run s (Stimulates m v s) t
+
+-- ---- what the system tells
+
+-- The ends are dialled, or the run is over. So many ends has the connection.
+abbrev pub dial_told : Bool → Run → State → State
+dial_told true r s = goes_on (with_dialled 1 r) (Idle ∷ []) s
+dial_told false r s = goes_on (over_run r) (ends_with Link r) s
+
+-- the action is numbered, or the run is over
+abbrev pub send_told : ℤ → Bool → Run → State → State
+send_told v true r s = goes_on (seen_run (seen.In v) r) (Say (note.In (length r.trace + 1) v) ∷ Idle ∷ []) s
+send_told v false r s = goes_on (over_run r) (ends_with Link r) s
+
+abbrev pub seen_note : ℕ → Seen → Note
+seen_note n (seen.In v) = note.In n v
+seen_note n (seen.Out v) = note.Out n v
+seen_note n seen.Quiet = note.Quiet n
+
+-- an observation is numbered, and FAIL follows exactly where the rules do not allow it after the trace
+abbrev pub Judges : Model → Seen → Run → State → State → Type 0
+Judges m x r s t =
+    MaySee m r.trace x × (t ≡ goes_on (seen_run x r) (Say (seen_note (length r.trace + 1) x) ∷ Idle ∷ []) s)
+    ⊎ ((MaySee m r.trace x → ⊥)
+    × (t ≡ goes_on (over_run (seen_run x r)) (Say (seen_note (length r.trace + 1) x) ∷ ends_with Fail r) s))
+
+-- the number of one whole line with nothing behind it
+abbrev pub number_in : Option (List ℕ × List ℕ) → Option ℤ
+number_in None = None
+number_in (Some parts) = if_last parts.0 parts.1
+  where
+    if_last : List ℕ → List ℕ → Option ℤ
+    if_last line [] = spelled line
+    if_last line (b ∷ bs) = None
+
+-- what is heard is judged where it is an Int in one whole line of end 0; LATER stands for what is not read so far
+abbrev pub HeedsNumber : Model → Option ℤ → Run → State → State → Type 0
+HeedsNumber m None r s t = t ≡ goes_on (over_run r) (ends_with Later r) s
+HeedsNumber m (Some v) r s t = Judges m (seen.Out v) r s t
+
+abbrev pub HeedsPiece : Model → Bool → List ℕ → Run → State → State → Type 0
+HeedsPiece m true bytes r s t = HeedsNumber m (number_in (cut_at 10 bytes)) r s t
+HeedsPiece m false bytes r s t = t ≡ goes_on (over_run r) (ends_with Later r) s
+
+abbrev pub Heeds : Model → Heard → Run → State → State → Type 0
+Heeds m (heard.Piece end bytes) r s t = HeedsPiece m (eqb end 0) bytes r s t
+Heeds m heard.Nothing r s t = t ≡ goes_on (over_run r) (ends_with Later r) s
+Heeds m heard.Quiet r s t = Judges m seen.Quiet r s t
+Heeds m (heard.Ended end) r s t = t ≡ goes_on (over_run r) (ends_with Later r) s
+Heeds m heard.Failed r s t = t ≡ goes_on (over_run r) (ends_with Link r) s
+
+-- ---- what is done by itself
+
+abbrev pub is_fail : Note → Bool
+is_fail (note.Ended Fail) = true
+is_fail _ = false
+
+abbrev pub hung_run : Option Run → Option Run
+hung_run None = None
+hung_run (Some r) = Some (with_dialled 0 r)
+
+-- the state after a doing that asks nothing, with the doings behind it
+abbrev pub done : Doing → List Doing → State → State
+done (Say n) more s = record { run = s.run; has_failed = s.has_failed || is_fail n; todo = more }
+done HangUp more s = record { run = hung_run s.run; has_failed = s.has_failed; todo = more }
+done _ more s = does more s
