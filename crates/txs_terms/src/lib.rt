@@ -1,2 +1,15 @@
 //! Terms, actions, the rules of behaviour, and what may be observed after a trace.
 #![tactic(auto)]
+
+mod action;
+mod expr;
+mod offer;
+mod slots;
+mod term;
+mod tree;
+
+pub use action::{Action, Channels, Part};
+pub use expr::{Expr, Exprs, copy_exprs};
+pub use offer::{Offer, Offers, Position, Positions, copy_offers};
+pub use slots::fill;
+pub use term::{Call, ChanTypes, Names, Term, Top, term_prefix, term_stop};
