@@ -6,8 +6,8 @@ use Rattle.txs_outside.specs.declared.sut.Heard.TheVariants as heard
 use Rattle.txs_outside.specs.declared.sut.SutCall.{SutCall}
 use Rattle.txs_outside.specs.declared.sut.SutCall.TheVariants as call
 use Rattle.txs_outside.specs.declared.sut.SutEntry.{SutEntry}
-use Rattle.txs_outside.specs.declared.sut.Ends.{Ends}
-use Rattle.txs_outside.specs.Calls.{number_of, more}
+use Rattle.txs_outside.specs.declared.ends.Ends.{Ends}
+use Rattle.txs_outside.specs.Hanging.{number_of, more}
 use Rattle.txs_drive.specs.declared.doing.Doing.{Doing}
 use Rattle.txs_drive.specs.declared.doing.Doing.TheVariants.{Say, Dial, Wait, Send, HangUp, Idle, Quit}
 use Rattle.txs_drive.specs.declared.model.Model.{Model}
@@ -16,7 +16,7 @@ use Rattle.txs_drive.specs.declared.note.Note.TheVariants as note
 use Rattle.txs_drive.specs.declared.note.Ending.TheVariants.{Link}
 use Rattle.txs_drive.specs.Commands.{command_of}
 use Rattle.txs_drive.specs.Lines.{line_of, sent_line}
-use Rattle.txs_drive.specs.Session.{Run, State, does, goes_on, Carries, dial_told, send_told, Heeds, is_fail, done}
+use Rattle.txs_drive.specs.Session.{Run, State, does, goes_on, Carries, dial_told, send_told, sign_of, Heeds, is_fail, done}
 
 -- a command line is read, a doing that asks nothing is done, or a call on the system is answered
 pub data Event : Type 0 where
@@ -46,7 +46,7 @@ pub data Leads (m : Model) : State → List Event → State → Type 0 where
   dialling : {s t : State} {es : List Event} (ok : Bool) (r : Run)
       → s.todo ≡ Dial ∷ [] → s.run ≡ Some r → Leads m (dial_told ok r s) es t → Leads m s (dials ok ∷ es) t
   waiting : {s t u : State} {es : List Event} (h : Heard) (r : Run)
-      → s.todo ≡ Wait ∷ [] → s.run ≡ Some r → Heeds m h r s u → Leads m u es t → Leads m s (waits h ∷ es) t
+      → s.todo ≡ Wait ∷ [] → s.run ≡ Some r → Heeds m (sign_of h) r s u → Leads m u es t → Leads m s (waits h ∷ es) t
   sending : {s t : State} {es : List Event} (v : ℤ) (ok : Bool) (r : Run)
       → s.todo ≡ Send v ∷ [] → s.run ≡ Some r → Leads m (send_told v ok r s) es t → Leads m s (sends v ok ∷ es) t
 

@@ -3,7 +3,7 @@ use Rattle.std.specs.Prelude.{◌≡◌, ◌⊎◌, ℕ, zero, suc, ◌+◌, ◌
 use Rattle.txs_outside.specs.Causes.{Rose}
 use Rattle.txs_outside.specs.Known.{Grows, Adds}
 use Rattle.txs_outside.specs.declared.sut.SutEntry.{SutEntry}
-use Rattle.txs_drive.specs.declared.doing.Doing.TheVariants.{HangUp}
+use Rattle.txs_drive.specs.declared.doing.Doing.TheVariants.{HangUp, Quit}
 use Rattle.txs_drive.specs.declared.model.Model.{Model}
 use Rattle.txs_drive.specs.declared.note.Note.TheVariants as note
 use Rattle.txs_drive.specs.declared.note.Ending.TheVariants.{Link, Fail}
@@ -61,9 +61,7 @@ Gave fault given commands = (given ≡ commands) × (length commands ≤ byte_li
 -- all lines are carried out, or a `quit` was met; so the reference run does not stand still
 abbrev pub Rests : Bool → State → List (List ℕ) → List Event → Type 0
 Rests false s more es = (s.todo ≡ []) × (more ≡ [])
-Rests true s more es = (s.todo ≡ []) × (before : List Event) × (es ≡ before ++ does' Quit' ∷ [])
-  where
-    Quit' = Rattle.txs_drive.specs.declared.doing.Doing.TheVariants.Quit
+Rests true s more es = (s.todo ≡ []) × (before : List Event) × (es ≡ before ++ does' Quit ∷ [])
 
 -- the status by how the commands ended, whether a `quit` was met, and whether FAIL was written
 abbrev pub by_fail : Bool → ℕ
@@ -81,3 +79,34 @@ status_of limit false failed = Some 6
 abbrev pub last_of : ℕ → List Event
 last_of zero = []
 last_of (suc n) = does' HangUp ∷ []
+
+-- ---- all of it
+
+-- A session of the model, from the first state of the reference run: the commands that the source gave and
+-- their ending, the events that they and the system's answers lead to, and what comes of these: all that was
+-- written, the calls on the system, and the status.
+pub record Served (m : Model) (g0 g1 : Option (List ℕ)) (at_end : Bool) (k0 k1 : Option (List ℕ)) (u0 u1 : Option (List SutEntry)) (h0 h1 : Option ℕ) (f0 f1 : ℕ) (code : ℕ) : Type 0 where
+  pub given : List ℕ
+  pub commands : List ℕ
+  pub ending : Ending
+  pub has_quit : Bool
+  pub events : List Event
+  pub behind : List (List ℕ)
+  pub final : State
+  -- what was read of the source, and how it ended
+  pub gave : Grows g0 g1 given
+  pub split : Gave ending given commands
+  pub ended : ending ≡ end → at_end ≡ true
+  -- the reference run, which does not stand still
+  pub leads : Leads m first events final
+  pub lines : command_lines commands ending ≡ lines_in events ++ behind
+  pub rests : Rests has_quit final behind events
+  -- all that was written and called
+  pub text : Grows k0 k1 (text_of m (notes_in events))
+  pub calls : Adds u0 u1 (calls_in m events h0)
+  pub hang_ups : h1 ≡ hung_after (events ++ last_of (dialled_of final.run)) h0
+  -- LINK only where the system's count of faults rose
+  pub later : f0 ≤ f1
+  pub link : IsNoted (note.Ended Link) (notes_in events) → Rose f0 f1
+  -- 10 where FAIL was written, else 0; 3 after a read fault, and 6 at the limit of bytes
+  pub status : status_of ending has_quit (has_fail (notes_in events)) ≡ Some code

@@ -4,6 +4,8 @@ use Rattle.txs_outside.specs.declared.sut.Heard.{Heard}
 use Rattle.txs_outside.specs.declared.sut.Heard.TheVariants as heard
 use Rattle.txs_drive.specs.declared.note.Seen.{Seen}
 use Rattle.txs_drive.specs.declared.note.Seen.TheVariants as seen
+use Rattle.txs_drive.specs.declared.sign.Sign.{Sign}
+use Rattle.txs_drive.specs.declared.sign.Sign.TheVariants as sign
 use Rattle.txs_drive.specs.declared.note.Ending.{Ending}
 use Rattle.txs_drive.specs.declared.note.Ending.TheVariants.{Fail, Link, Later}
 use Rattle.txs_drive.specs.declared.note.Note.{Note}
@@ -125,21 +127,23 @@ number_in (Some parts) = if_last parts.0 parts.1
     if_last line [] = spelled line
     if_last line (b ∷ bs) = None
 
--- what is heard is judged where it is an Int in one whole line of end 0; LATER stands for what is not read so far
-abbrev pub HeedsNumber : Model → Option ℤ → Run → State → State → Type 0
-HeedsNumber m None r s t = t ≡ goes_on (over_run r) (ends_with Later r) s
-HeedsNumber m (Some v) r s t = Judges m (seen.Out v) r s t
+-- what an answer of the system says: an observation, that the link broke, or what is not read so far
+abbrev pub number_sign : Option ℤ → Sign
+number_sign None = sign.Later
+number_sign (Some v) = sign.Shows (seen.Out v)
 
-abbrev pub HeedsPiece : Model → Bool → List ℕ → Run → State → State → Type 0
-HeedsPiece m true bytes r s t = HeedsNumber m (number_in (cut_at 10 bytes)) r s t
-HeedsPiece m false bytes r s t = t ≡ goes_on (over_run r) (ends_with Later r) s
+-- an Int in one whole line of end 0 is an action on the output channel
+abbrev pub sign_of : Heard → Sign
+sign_of (heard.Piece end bytes) = cond (eqb end 0) (number_sign (number_in (cut_at 10 bytes))) sign.Later
+sign_of heard.Nothing = sign.Later
+sign_of heard.Quiet = sign.Shows seen.Quiet
+sign_of (heard.Ended end) = sign.Later
+sign_of heard.Failed = sign.Breaks
 
-abbrev pub Heeds : Model → Heard → Run → State → State → Type 0
-Heeds m (heard.Piece end bytes) r s t = HeedsPiece m (eqb end 0) bytes r s t
-Heeds m heard.Nothing r s t = t ≡ goes_on (over_run r) (ends_with Later r) s
-Heeds m heard.Quiet r s t = Judges m seen.Quiet r s t
-Heeds m (heard.Ended end) r s t = t ≡ goes_on (over_run r) (ends_with Later r) s
-Heeds m heard.Failed r s t = t ≡ goes_on (over_run r) (ends_with Link r) s
+abbrev pub Heeds : Model → Sign → Run → State → State → Type 0
+Heeds m (sign.Shows x) r s t = Judges m x r s t
+Heeds m sign.Breaks r s t = t ≡ goes_on (over_run r) (ends_with Link r) s
+Heeds m sign.Later r s t = t ≡ goes_on (over_run r) (ends_with Later r) s
 
 -- ---- what is done by itself
 

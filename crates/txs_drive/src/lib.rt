@@ -1,0 +1,17 @@
+//! Reading a file, and one session of its model from the command bytes to the status.
+#![tactic(auto)]
+
+mod command;
+mod doing;
+mod lines;
+mod model;
+mod note;
+mod session;
+mod sign;
+
+pub use command::Command;
+pub use doing::Doing;
+pub use model::Model;
+pub use note::{Ending, Note, Seen};
+pub use session::{Run, Session};
+pub use sign::Sign;
