@@ -6,3 +6,4 @@ pub mod Rules
 pub mod After
 pub mod Sets
 pub mod View
+pub mod Moves
