@@ -1,5 +1,5 @@
 -- The number in front of a text, and what it spells.
-use Rattle.std.proofs.Common.{◌≡◌, ◌≢◌, ◌⊎◌, inl, inr, ℕ, zero, suc, ℤ, ◌<◌, ◌≤◌, ◌^◌, ◌↔◌, Bool, true, false, cond, ◌&&◌, eqb, eqb-true, List, [], ◌∷◌, ◌++◌, length, take, drop, Option, Some, None, Result, Ok, Err, refl, sym, ◌∙◌, ap, subst, arith, get_or, Decides, nat_lt, FitsSigned, MatchOption}
+use Rattle.std.proofs.Common.{◌≡◌, ◌≢◌, ℕ, ℤ, ◌<◌, ◌≤◌, ◌^◌, ◌↔◌, Bool, true, false, cond, eqb, eqb-true, List, [], ◌∷◌, length, take, drop, Option, Some, None, Result, Ok, Err, refl, sym, ◌∙◌, ap, subst, arith, FitsSigned, MatchOption}
 use Rattle.std.proofs.lemmas.Bool.Decides.{nat_tests, Decides-ltb}
 use Rattle.std.proofs.lemmas.Fmt.{IsAscii-from_digits}
 use Rattle.std.proofs.lemmas.Str.Ascii.{IsAscii-nil, IsAscii-cons}
@@ -7,10 +7,10 @@ use Rattle.std.specs.Char.{digit_value}
 use Rattle.std.specs.Int.{w128}
 use Rattle.std.specs.Int.Signed.{mag}
 use Rattle.std.specs.Str.{IsAscii}
-use Rattle.std.specs.Str.Parse.{AllDigits, IsNumeral, without_leading_sign, signed_digits_value}
+use Rattle.std.specs.Str.Parse.{AllDigits, IsNumeral}
 use Rattle.txs_values.specs.Ints.{number_run, past_number, has_digit, IsNumber}
-use Rattle.txs_values.specs.Spelling.{is_digit, is_blank, run_of, past_run, past_blanks, Front, then_front, digits_front, number_front, whole_front, alone, last_value, last_number, lone_number, spelled_number, IsPast, read_text, value_front}
-use Rattle.txs_values.specs.Value.{Table, Ty, whole, Value, num, fits, value_height_limit, value_size_limit}
+use Rattle.txs_values.specs.Spelling.{is_digit, run_of, past_run, past_blanks, Front, then_front, number_front, alone, last_value, last_number, lone_number, spelled_number, read_text}
+use Rattle.txs_values.specs.Value.{Table, whole, Value, num, fits, value_height_limit, value_size_limit}
 
 -- ---- the front as a prefix
 

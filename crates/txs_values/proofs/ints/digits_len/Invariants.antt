@@ -1,4 +1,4 @@
-use Rattle.std.proofs.Common.{◌≡◌, ◌+◌, ◌≤◌, length, drop}
+use Rattle.std.proofs.Common.{◌≡◌, ◌+◌, length, drop}
 use Rattle.txs_values.specs.Spelling.{run_of, is_digit}
 use Rattle.txs_values.proofs.ints.digits_len.Given as goal
 

@@ -1,10 +1,9 @@
-use Rattle.std.proofs.Common.{◌≡◌, ℤ, List, ℕ, FitsSigned, Result, Ok, Err, sym, subst, ap, ◌∙◌, cond}
+use Rattle.std.proofs.Common.{FitsSigned, sym, subst}
 use Rattle.std.proofs.lemmas.Int.{to_z-of_z}
 use Rattle.std.proofs.lemmas.Str.{IsUtf8-from_ascii}
 use Rattle.std.specs.Int.{w128}
-use Rattle.std.specs.Str.Parse.{ParsesSigned, signed_digits_value}
+use Rattle.std.specs.Str.Parse.{signed_digits_value}
 use Rattle.txs_values.proofs.Numbers.{number_ascii, parsed-ok, parsed-err}
-use Rattle.txs_values.specs.Value.{fits}
 use Rattle.txs_values.specs.declared.ints.ReadIntFault.TheVariants.{Range}
 use Rattle.txs_values.proofs.ints.number_value.Goals as goal
 

@@ -1,6 +1,6 @@
 use Rattle.std.proofs.Common.{◌≡◌, true, List, ℕ, sym, subst, rules}
 use Rattle.txs_values.proofs.Numbers.{number_run-number}
-use Rattle.txs_values.specs.Ints.{has_digit, IsNumber, number_run}
+use Rattle.txs_values.specs.Ints.{has_digit, IsNumber}
 use Rattle.txs_values.proofs.ints.spelled_int.Goals as goal
 
 pub number_value-requires : goal.number_value-requires
