@@ -1,7 +1,7 @@
 -- The value that a text spells: the canonical text with blanks around each token, leading zeros allowed, and `-0` for 0.
-use Rattle.std.specs.Prelude.{ℕ, zero, suc, ◌+◌, ℤ, Bool, true, false, cond, ◌&&◌, ◌||◌, not, eqb, nat_lt, nat_le, List, [], ◌∷◌, ◌++◌, Option, Some, None, codes, bytes_eq}
+use Rattle.std.specs.Prelude.{◌≡◌, ℕ, zero, suc, ◌+◌, ℤ, Bool, true, false, cond, ◌&&◌, ◌||◌, eqb, nat_le, List, [], ◌∷◌, ◌++◌, Option, Some, None, codes, bytes_eq}
 use Rattle.std.specs.Str.Parse.{signed_digits_value}
-use Rattle.txs_values.specs.Value.{Ty, whole, truth, string, named, Value, num, bool, text, cons, Values, no_value, and_value, Field, Constructor, TypeDef, Table, fits, size, value_size_limit, value_height_limit}
+use Rattle.txs_values.specs.Value.{Ty, whole, truth, string, named, Value, num, bool, text, cons, Values, no_value, and_value, Field, Constructor, Table, fits, size, value_size_limit, value_height_limit}
 
 -- ---- bytes
 
@@ -166,14 +166,34 @@ abbrev pub value_front : Table → ℕ → Reader
 value_front table zero ty bs = None
 value_front table (suc left) ty bs = level_front table (value_front table left) ty (past_blanks bs)
 
+-- a value, where nothing is behind it and it is not too large
+abbrev pub last_value : List ℕ → Value → Option Value
+last_value [] v = cond (nat_le (size v) value_size_limit) (Some v) None
+last_value (b ∷ bs) v = None
+
 -- a value that only blanks follow, and that is not too large
 abbrev pub alone : Option (Front Value) → Option Value
 alone None = None
-alone (Some f) = if_nothing (past_blanks f.rest) f.value
-  where
-    if_nothing : List ℕ → Value → Option Value
-    if_nothing [] v = cond (nat_le (size v) value_size_limit) (Some v) None
-    if_nothing (b ∷ bs) v = None
+alone (Some f) = last_value (past_blanks f.rest) f.value
+
+-- a number, where nothing is behind it
+abbrev pub last_number : List ℕ → ℤ → Option ℤ
+last_number [] n = Some n
+last_number (b ∷ bs) n = None
+
+-- a number that only blanks follow
+abbrev pub lone_number : Option (Front ℤ) → Option ℤ
+lone_number None = None
+lone_number (Some f) = last_number (past_blanks f.rest) f.value
+
+-- the number that the text spells, of any size
+abbrev pub spelled_number : List ℕ → Option ℤ
+spelled_number bs = lone_number (number_front (past_blanks bs))
+
+-- a number, and past the range of Int
+abbrev pub IsPast : Option ℤ → Type 0
+IsPast None = ⊥
+IsPast (Some n) = fits n ≡ false
 
 -- the value of this type that the text spells, where it spells one of allowed size and height
 abbrev pub read_text : Table → Ty → List ℕ → Option Value

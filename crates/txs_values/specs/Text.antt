@@ -1,5 +1,5 @@
 -- The canonical text of a value.
-use Rattle.std.specs.Prelude.{ℕ, suc, ℤ, pos, negsuc, true, false, cond, eqb, List, [], ◌∷◌, ◌++◌, Option, Some, None, codes}
+use Rattle.std.specs.Prelude.{ℕ, true, false, cond, eqb, List, [], ◌∷◌, ◌++◌, Option, Some, None, codes}
 use Rattle.std.specs.Fmt.{signed_decimal}
 use Rattle.txs_values.specs.Value.{Value, num, bool, text, cons, Values, no_value, and_value, Table, Place, place_of}
 
