@@ -2,6 +2,7 @@
 use Rattle.std.specs.Prelude.{ℕ, ℤ, List, [], ◌∷◌, ◌++◌, map, reverse}
 use Rattle.txs_values.specs.Value.{whole, num}
 use Rattle.txs_terms.specs.Action.{Action, Scope}
+use Rattle.txs_terms.specs.Term.{Term}
 use Rattle.txs_terms.specs.Rules as rules
 use Rattle.txs_terms.specs.After.{Sync, Observable, acted, quiescence, Out, AllowedIn}
 use Rattle.txs_terms.specs.View.{term_of}
@@ -40,3 +41,9 @@ MaySend m trace v = AllowedIn definitions scope sync (term_of m.start) (latest_f
 -- the rules allow to see this after the trace
 abbrev pub MaySee : Model → List Seen → Seen → Type 0
 MaySee m trace s = Out definitions scope sync (term_of m.start) (latest_first trace) (observable_of s)
+
+-- the rules allow this after the trace: to send it, or to see it
+abbrev pub IsAllowed : Term → List Observable → Seen → Type 0
+IsAllowed b trace (seen.In v) = AllowedIn definitions scope sync b trace (on 0 v)
+IsAllowed b trace (seen.Out v) = Out definitions scope sync b trace (acted (on 1 v))
+IsAllowed b trace seen.Quiet = Out definitions scope sync b trace quiescence

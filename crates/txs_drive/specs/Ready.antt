@@ -5,7 +5,7 @@ use Rattle.txs_terms.specs.Sets.{IsAfter, ArePlain}
 use Rattle.txs_terms.specs.View.{term_of, terms_of}
 use Rattle.txs_drive.specs.declared.doing.Doing.{Doing}
 use Rattle.txs_drive.specs.declared.doing.Doing.TheVariants.{Say, Dial, Wait, Send, HangUp, Idle, Quit}
-use Rattle.txs_drive.specs.declared.session.Run as rust_run
+use Rattle.txs_drive.specs.declared.run.Run as rust_run
 use Rattle.txs_drive.specs.declared.session.Session as rust
 use Rattle.txs_drive.specs.declared.model.Model.{Model}
 use Rattle.txs_drive.specs.Allowed.{definitions, scope, sync, latest_first}
@@ -22,7 +22,7 @@ state_of s = record { run = option_map run_of s.run; has_failed = s.has_failed; 
 abbrev pub IsKept : Model → rust_run.Run → Type 0
 IsKept m r =
     r.is_over ≡ false
-    → IsAfter definitions scope sync (term_of m.start) (latest_first r.trace.items) (terms_of r.set.items) × ArePlain (terms_of r.set.items)
+    → IsAfter definitions scope sync (term_of m.start) (latest_first r.trace.items) (terms_of r.set) × ArePlain (terms_of r.set.items)
 
 abbrev pub Keeps : Model → Option rust_run.Run → Type 0
 Keeps m None = Unit {0}

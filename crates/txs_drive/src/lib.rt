@@ -6,6 +6,7 @@ mod doing;
 mod lines;
 mod model;
 mod note;
+mod run;
 mod session;
 mod sign;
 
@@ -13,5 +14,6 @@ pub use command::Command;
 pub use doing::Doing;
 pub use model::Model;
 pub use note::{Ending, Note, Seen};
-pub use session::{Run, Session};
+pub use run::Run;
+pub use session::Session;
 pub use sign::Sign;
