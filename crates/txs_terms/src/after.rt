@@ -135,14 +135,21 @@ fn quiet_ones(alloc: Global, channel: u32, set: &[Term]) -> Result<Items<Term>, 
     Ok(found)
 }
 
+fn alone(alloc: Global, term: &Term) -> Result<Items<Term>, NoMemory>
+    ensures { IfOk result (λ ts. terms_of ts ≡ term_of term.now ∷ []) }
+{
+    let mut found = Items::new(alloc);
+    found.push(term.copy(alloc)?)?;
+    Ok(found)
+}
+
 /// The terms after the empty trace.
 pub fn first(alloc: Global, term: &Term) -> Result<Items<Term>, NoMemory>
     requires { IsPlain 0 (term_of term.now) }
     ensures plain { IfOk result (λ ts. ArePlain (terms_of ts)) }
     ensures after { IfOk result (λ ts. (model : Model) (scope : Scope) (sync : Sync) → IsAfter model scope sync (term_of term.now) [] (terms_of ts)) }
 {
-    let mut found = Items::new(alloc);
-    found.push(term.copy(alloc)?)?;
+    let found = alone(alloc, term)?;
     Ok(found)
 }
 
