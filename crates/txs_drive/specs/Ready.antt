@@ -22,7 +22,7 @@ state_of s = record { run = option_map run_of s.run; has_failed = s.has_failed; 
 abbrev pub IsKept : Model → rust_run.Run → Type 0
 IsKept m r =
     r.is_over ≡ false
-    → IsAfter definitions scope sync (term_of m.start) (latest_first r.trace.items) (terms_of r.set) × ArePlain (terms_of r.set.items)
+    → IsAfter definitions scope sync (term_of m.start) (latest_first r.trace.items) (terms_of r.set) × ArePlain (terms_of r.set)
 
 abbrev pub Keeps : Model → Option rust_run.Run → Type 0
 Keeps m None = Unit {0}
@@ -37,6 +37,11 @@ IsFresh (Some r) = (r.is_over ≡ false) × (r.trace ≡ []) × (r.dialled ≡ 0
 abbrev pub IsGoing : Option Run → Type 0
 IsGoing None = ⊥
 IsGoing (Some r) = (r.is_over ≡ false) × (0 < r.dialled)
+
+-- between two command lines a run that goes on has its ends dialled
+abbrev pub IsTied : Option Run → Type 0
+IsTied None = Unit {0}
+IsTied (Some r) = r.is_over ≡ false → 0 < r.dialled
 
 -- what is left to be done leads to the end of its command, or to a call that the run is ready for
 abbrev pub IsBusy : Option Run → List Doing → Type 0

@@ -1,5 +1,5 @@
 -- What a session does for its commands, for what the system tells: the steps of the reference run.
-use Rattle.std.specs.Prelude.{◌≡◌, ◌⊎◌, ℕ, suc, ◌+◌, ℤ, Bool, true, false, ◌||◌, cond, eqb, nat_lt, List, [], ◌∷◌, ◌++◌, length, Option, Some, None}
+use Rattle.std.specs.Prelude.{◌≡◌, ◌⊎◌, ℕ, suc, ◌+◌, ℤ, Bool, true, false, not, ◌||◌, cond, eqb, nat_lt, List, [], ◌∷◌, ◌++◌, length, Option, Some, None}
 use Rattle.txs_outside.specs.declared.sut.Heard.{Heard}
 use Rattle.txs_outside.specs.declared.sut.Heard.TheVariants as heard
 use Rattle.txs_drive.specs.declared.note.Seen.{Seen}
@@ -59,6 +59,10 @@ hanging n = cond (nat_lt 0 n) (HangUp ∷ []) []
 abbrev pub dialled_of : Option Run → ℕ
 dialled_of None = 0
 dialled_of (Some r) = r.dialled
+
+abbrev pub is_going : Option Run → Bool
+is_going None = false
+is_going (Some r) = not r.is_over
 
 -- the run ends: its line is written, and the ends are hung up
 abbrev pub ends_with : Ending → Run → List Doing

@@ -3,14 +3,16 @@
 
 mod command;
 mod doing;
+
 mod lines;
 mod model;
 mod note;
+mod pieces;
 mod run;
 mod session;
 mod sign;
 
-pub use command::Command;
+pub use command::{Command, read_command};
 pub use doing::Doing;
 pub use model::Model;
 pub use note::{Ending, Note, Seen};

@@ -1,4 +1,4 @@
-ghost use Rattle.std.specs.Prelude.{◌≡◌, ◌++◌, IfOk, codes};
+ghost use Rattle.std.specs.Prelude.{◌≡◌, ◌++◌, IfOk, codes, decimal};
 ghost use Rattle.txs_drive.specs.Lines;
 ghost use Rattle.txs_drive.specs.Lines.{ending_text};
 
@@ -28,7 +28,7 @@ fn out_line(alloc: Global, model: &Model, number: usize, value: i128) -> Result<
 }
 
 fn quiet_line(alloc: Global, number: usize) -> Result<Text, NoMemory>
-    ensures { IfOk result (λ t. (m : Model) → t ≡ Lines.line_of m (Note.Quiet number)) }
+    ensures { IfOk result (λ t. t ≡ decimal number ++ codes " OUT QUIET" ++ codes "\n") }
 {
     Ok(Text::from_string(format!(in alloc; "{number} OUT QUIET\n")?))
 }

@@ -73,8 +73,8 @@ pub(crate) fn set_after(alloc: Global, set: &[Term], seen: Seen) -> Result<Items
         → (0 < length ts) ↔ IsAllowed b trace seen) }
 {
     match seen {
-        Seen::In(value) => set_after_action(alloc, set, 0, value),
-        Seen::Out(value) => set_after_action(alloc, set, 1, value),
-        Seen::Quiet => after_quiescence(alloc, set, 1),
+        Seen::In(value) => Ok(set_after_action(alloc, set, 0, value)?),
+        Seen::Out(value) => Ok(set_after_action(alloc, set, 1, value)?),
+        Seen::Quiet => Ok(after_quiescence(alloc, set, 1)?),
     }
 }
