@@ -6,3 +6,4 @@ pub mod Calls
 pub mod Held
 pub mod Script
 pub mod Memory
+pub mod Edge
