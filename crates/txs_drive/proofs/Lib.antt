@@ -1,2 +1,5 @@
 pub mod Sets
 pub mod Numbers
+pub mod Sessions
+pub mod Courses
+pub mod Calls

@@ -1,10 +1,12 @@
 -- The two channels, and the sets after a trace over them.
-use Rattle.std.proofs.Common.{◌≡◌, ◌<◌, ◌↔◌, ℕ, zero, suc, ℤ, List, [], ◌∷◌, refl, subst, inl, arith}
+use Rattle.std.proofs.Common.{◌≡◌, ◌<◌, ◌↔◌, ℕ, zero, suc, ℤ, List, [], ◌∷◌, ◌++◌, map, refl, ap, subst, inl, arith}
+use Rattle.std.proofs.lemmas.List.{reverse-append}
+use Rattle.txs_drive.specs.declared.note.Seen.{Seen}
 use Rattle.txs_terms.specs.Term.{Term}
 use Rattle.txs_terms.specs.Action.{Action}
 use Rattle.txs_terms.specs.After.{Observable, acted}
 use Rattle.txs_terms.specs.Sets.{IsAfter, IsInt}
-use Rattle.txs_drive.specs.Allowed.{definitions, scope, sync, on}
+use Rattle.txs_drive.specs.Allowed.{definitions, scope, sync, on, observable_of, latest_first}
 
 -- each of the two channels has one position, of type Int
 pub int_channel : (c : ℕ) → c < 2 → IsInt scope c
@@ -19,3 +21,7 @@ after_on a x b trace set e h = subst (λ (y : Action). IsAfter definitions scope
 -- what holds where an action can be done holds where it can be done and is on a set of SYNC
 pub on_sync : {P A B : Type 0} → A → P ↔ B → P ↔ (A × B)
 on_sync a h = (λ p. (a, h.0 p), λ x. h.1 x.1)
+
+-- the latest of a trace that goes on is first
+pub latest_first-append : (trace : List Seen) (x : Seen) → latest_first (trace ++ x ∷ []) ≡ observable_of x ∷ latest_first trace
+latest_first-append trace x = ap (map observable_of) (reverse-append trace (x ∷ []))

@@ -8,3 +8,4 @@ pub mod Session
 pub mod Course
 pub mod Served
 pub mod Ready
+pub mod Going

@@ -1,5 +1,5 @@
 -- What a session of the code keeps between its calls.
-use Rattle.std.specs.Prelude.{◌≡◌, ◌⊎◌, ℕ, ◌+◌, ◌<◌, ◌≤◌, false, List, [], ◌∷◌, Option, Some, None}
+use Rattle.std.specs.Prelude.{◌≡◌, ◌⊎◌, ℕ, ◌+◌, ◌<◌, ◌≤◌, Bool, true, false, List, [], ◌∷◌, ◌++◌, length, Option, Some, None}
 use Rattle.std.specs.Option.{option_map}
 use Rattle.txs_terms.specs.Sets.{IsAfter, ArePlain}
 use Rattle.txs_terms.specs.View.{term_of, terms_of}
@@ -8,8 +8,13 @@ use Rattle.txs_drive.specs.declared.doing.Doing.TheVariants.{Say, Dial, Wait, Se
 use Rattle.txs_drive.specs.declared.run.Run as rust_run
 use Rattle.txs_drive.specs.declared.session.Session as rust
 use Rattle.txs_drive.specs.declared.model.Model.{Model}
-use Rattle.txs_drive.specs.Allowed.{definitions, scope, sync, latest_first}
-use Rattle.txs_drive.specs.Session.{Run, State, dialled_of}
+use Rattle.txs_drive.specs.Allowed.{definitions, scope, sync, latest_first, IsAllowed}
+use Rattle.txs_drive.specs.Session.{Run, State, dialled_of, done, Judges, Heeds}
+use Rattle.txs_drive.specs.declared.note.Seen.{Seen}
+use Rattle.txs_drive.specs.declared.note.Seen.TheVariants as seen
+use Rattle.txs_terms.specs.declared.term.Term as rust_term
+use Rattle.txs_drive.specs.declared.sign.Sign.{Sign}
+use Rattle.txs_drive.specs.Course.{asks_nothing}
 
 abbrev pub run_of : rust_run.Run → Run
 run_of r = record { trace = r.trace.items; is_over = r.is_over; dialled = r.dialled }
@@ -22,11 +27,36 @@ state_of s = record { run = option_map run_of s.run; has_failed = s.has_failed; 
 abbrev pub IsKept : Model → rust_run.Run → Type 0
 IsKept m r =
     r.is_over ≡ false
-    → IsAfter definitions scope sync (term_of m.start) (latest_first r.trace.items) (terms_of r.set) × ArePlain (terms_of r.set)
+    → IsAfter definitions scope sync (term_of m.start) (latest_first r.trace.items) (terms_of r.set)
 
 abbrev pub Keeps : Model → Option rust_run.Run → Type 0
 Keeps m None = Unit {0}
 Keeps m (Some r) = IsKept m r
+
+-- a run's set has plain terms alone
+abbrev pub IsPlainRun : Option rust_run.Run → Type 0
+IsPlainRun None = Unit {0}
+IsPlainRun (Some r) = ArePlain (terms_of r.set)
+
+-- the set has the terms after the run's trace and one more
+abbrev pub IsMoved : Model → Seen → Option rust_run.Run → List rust_term.Term → Type 0
+IsMoved m x None ts = ⊥
+IsMoved m x (Some r) ts = IsAfter definitions scope sync (term_of m.start) (latest_first (r.trace.items ++ x ∷ [])) (terms_of ts)
+
+-- the rules allow this after the run's trace
+abbrev pub AllowedNow : Model → Seen → Option rust_run.Run → Type 0
+AllowedNow m x None = ⊥
+AllowedNow m x (Some r) = IsAllowed (term_of m.start) (latest_first r.trace.items) x
+
+-- what the system shows
+abbrev pub IsObserved : Seen → Type 0
+IsObserved (seen.In v) = ⊥
+IsObserved (seen.Out v) = Unit {0}
+IsObserved seen.Quiet = Unit {0}
+
+abbrev pub next_number : Option Run → ℕ
+next_number None = 0
+next_number (Some r) = length r.trace + 1
 
 -- a run that begins
 abbrev pub IsFresh : Option Run → Type 0
@@ -38,6 +68,11 @@ abbrev pub IsGoing : Option Run → Type 0
 IsGoing None = ⊥
 IsGoing (Some r) = (r.is_over ≡ false) × (0 < r.dialled)
 
+-- a run that has ended
+abbrev pub IsOver : Option Run → Type 0
+IsOver None = ⊥
+IsOver (Some r) = r.is_over ≡ true
+
 -- between two command lines a run that goes on has its ends dialled
 abbrev pub IsTied : Option Run → Type 0
 IsTied None = Unit {0}
@@ -47,8 +82,8 @@ IsTied (Some r) = r.is_over ≡ false → 0 < r.dialled
 abbrev pub IsBusy : Option Run → List Doing → Type 0
 IsBusy r [] = ⊥
 IsBusy r (Say n ∷ ds) = IsBusy r ds
-IsBusy r (HangUp ∷ ds) = (ds ≡ Idle ∷ []) ⊎ (ds ≡ Quit ∷ [])
-IsBusy r (Idle ∷ ds) = ds ≡ []
+IsBusy r (HangUp ∷ ds) = IsOver r × (ds ≡ Idle ∷ []) ⊎ (ds ≡ Quit ∷ [])
+IsBusy r (Idle ∷ ds) = IsTied r × (ds ≡ [])
 IsBusy r (Quit ∷ ds) = ds ≡ []
 IsBusy r (Dial ∷ ds) = IsFresh r × (ds ≡ [])
 IsBusy r (Wait ∷ ds) = IsGoing r × (ds ≡ [])
@@ -67,3 +102,24 @@ weight Quit = 1
 abbrev pub rank : List Doing → ℕ
 rank [] = 0
 rank (d ∷ ds) = weight d + rank ds
+
+-- The first thing to be done: it is done where it asks the system nothing, and else it stays until it is answered.
+abbrev pub IsNext : Doing → State → State → Type 0
+IsNext d s t = (more : List Doing) × (s.todo ≡ d ∷ more) × AfterNext (asks_nothing d) d more s t
+  where
+    AfterNext : Bool → Doing → List Doing → State → State → Type 0
+    AfterNext true d more s t = t ≡ done d more s
+    AfterNext false d more s t = t ≡ s
+
+-- the run goes on to this state
+abbrev pub ToldBy : Option Run → (Run → State) → State → Type 0
+ToldBy None go t = ⊥
+ToldBy (Some r) go t = t ≡ go r
+
+abbrev pub Judged : Model → Seen → Option Run → State → State → Type 0
+Judged m x None s t = ⊥
+Judged m x (Some r) s t = Judges m x r s t
+
+abbrev pub HeedsBy : Model → Sign → Option Run → State → State → Type 0
+HeedsBy m x None s t = ⊥
+HeedsBy m x (Some r) s t = Heeds m x r s t

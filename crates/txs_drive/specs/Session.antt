@@ -131,21 +131,22 @@ number_in (Some parts) = if_last parts.0 parts.1
     if_last line [] = spelled line
     if_last line (b ∷ bs) = None
 
--- what an answer of the system says: an observation, that the link broke, or what is not read so far
+-- an Int in one whole line of end 0 is an action on the output channel; what else is told is not read so far
 abbrev pub number_sign : Option ℤ → Sign
 number_sign None = sign.Later
-number_sign (Some v) = sign.Shows (seen.Out v)
+number_sign (Some v) = sign.Number v
 
--- an Int in one whole line of end 0 is an action on the output channel
 abbrev pub sign_of : Heard → Sign
 sign_of (heard.Piece end bytes) = cond (eqb end 0) (number_sign (number_in (cut_at 10 bytes))) sign.Later
 sign_of heard.Nothing = sign.Later
-sign_of heard.Quiet = sign.Shows seen.Quiet
+sign_of heard.Quiet = sign.Quiet
 sign_of (heard.Ended end) = sign.Later
 sign_of heard.Failed = sign.Breaks
 
+-- an observation is judged; all else ends the run
 abbrev pub Heeds : Model → Sign → Run → State → State → Type 0
-Heeds m (sign.Shows x) r s t = Judges m x r s t
+Heeds m (sign.Number v) r s t = Judges m (seen.Out v) r s t
+Heeds m sign.Quiet r s t = Judges m seen.Quiet r s t
 Heeds m sign.Breaks r s t = t ≡ goes_on (over_run r) (ends_with Link r) s
 Heeds m sign.Later r s t = t ≡ goes_on (over_run r) (ends_with Later r) s
 

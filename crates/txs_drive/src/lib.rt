@@ -3,6 +3,7 @@
 
 mod command;
 mod doing;
+mod driver;
 
 mod lines;
 mod model;
@@ -14,6 +15,7 @@ mod sign;
 
 pub use command::{Command, read_command};
 pub use doing::Doing;
+pub use driver::{Next, Stop};
 pub use model::Model;
 pub use note::{Ending, Note, Seen};
 pub use run::Run;

@@ -24,7 +24,7 @@ pub struct Run {
 }
 
 impl Run {
-    ghost use Rattle.txs_drive.specs.Session.{new_run};
+    ghost use Rattle.txs_drive.specs.Session.{new_run, seen_run, over_run};
     ghost use Rattle.txs_drive.specs.Ready.{run_of, IsKept};
 
     /// A run whose ends are not dialled yet.
@@ -32,6 +32,7 @@ impl Run {
         requires { IsPlain 0 (term_of model.now.start) }
         ensures fresh { IfOk result (λ r. run_of r ≡ new_run) }
         ensures kept { IfOk result (λ r. IsKept model.now r) }
+        ensures plain { IfOk result (λ r. ArePlain (terms_of r.set)) }
     {
         let set = first(alloc, &model.start)?;
         Ok(Run {
@@ -40,6 +41,29 @@ impl Run {
             dialled: 0,
             set,
         })
+    }
+
+    /// Numbers what was seen, and goes on with the terms after it.
+    pub(crate) fn go_on(&mut self, seen: Seen, set: Items<Term>) -> Result<(), NoMemory>
+        ensures seen { OnOk result (run_of self.new ≡ seen_run seen (run_of self.old)) }
+        ensures set { OnOk result (self.new.set ≡ set) }
+        ensures same { OnErr result (run_of self.new ≡ run_of self.old) }
+        ensures same_set { OnErr result (self.new.set ≡ self.old.set) }
+    {
+        self.trace.push(seen)?;
+        self.set = set;
+        Ok(())
+    }
+
+    /// Numbers what was seen, with which the run ends.
+    pub(crate) fn end_at(&mut self, seen: Seen) -> Result<(), NoMemory>
+        ensures seen { OnOk result (run_of self.new ≡ over_run (seen_run seen (run_of self.old))) }
+        ensures same { OnErr result (run_of self.new ≡ run_of self.old) }
+        ensures set { self.new.set ≡ self.old.set }
+    {
+        self.trace.push(seen)?;
+        self.is_over = true;
+        Ok(())
     }
 }
 

@@ -1,10 +1,14 @@
-ghost use Rattle.std.specs.Prelude.{◌≡◌, ◌<◌, ◌∷◌, ◌++◌, [], List, IfOk, OnOk, OnErr, Some, true, false};
-ghost use Rattle.txs_terms.specs.Sets.{IsPlain};
-ghost use Rattle.txs_terms.specs.View.{term_of};
+ghost use Rattle.std.specs.Prelude.{◌≡◌, ◌<◌, ◌↔◌, length, ◌∷◌, ◌++◌, [], List, IfOk, OnOk, OnErr, Some, true, false};
+ghost use Rattle.txs_terms.specs.Sets.{IsPlain, ArePlain};
+ghost use Rattle.txs_terms.specs.View.{term_of, terms_of};
+ghost use Rattle.txs_drive.specs.Session as reference;
+ghost use Rattle.txs_drive.specs.Session.{seen_note};
 
 use crate::run::set_after;
 use crate::{Command, Doing, Ending, Model, Note, Run, Seen, Sign, read_command};
+use sqlite_items::Items;
 use std::alloc::Global;
+use txs_terms::Term;
 use txs_values::NoMemory;
 
 /// One session: its run, and what it is to do next.
@@ -22,6 +26,14 @@ fn plan(alloc: Global, doings: &[Doing]) -> Result<Vec<Doing>, NoMemory>
     Ok(Vec::from_slice(alloc, doings)?)
 }
 
+/// An observation with which a run fails.
+fn plan_fail(alloc: Global, note: Note) -> Result<Vec<Doing>, NoMemory>
+    ensures { IfOk result (λ v. v.items ≡ Doing.Say note ∷ Doing.Say (Note.Ended Ending.Fail) ∷ Doing.HangUp ∷ Doing.Idle ∷ []) }
+{
+    let fail = Doing::Say(Note::Ended(Ending::Fail));
+    Ok(plan(alloc, &[Doing::Say(note), fail, Doing::HangUp, Doing::Idle])?)
+}
+
 /// The line of what was seen.
 fn note_of(number: usize, seen: Seen) -> Note
     ensures { result ≡ seen_note number seen }
@@ -33,14 +45,22 @@ fn note_of(number: usize, seen: Seen) -> Note
     }
 }
 
-ghost use Rattle.txs_drive.specs.Session.{seen_note};
+fn is_fail(note: Note) -> bool
+    ensures { result ≡ reference.is_fail note }
+{
+    match note {
+        Note::Ended(Ending::Fail) => true,
+        _ => false,
+    }
+}
 
 impl Session {
     ghost use Rattle.std.specs.Option.{option_map};
+    ghost use Rattle.std.specs.Prelude.{if◌then◌else◌};
     ghost use Rattle.txs_drive.specs.Commands.{command_of};
     ghost use Rattle.txs_drive.specs.Course.{asks_nothing};
-    ghost use Rattle.txs_drive.specs.Session.{first, started, is_going, dialled_of, hanging, Carries, IfGoing, Stimulates, refused, does, dial_told, send_told, Judges, Heeds, goes_on, over_run, ends_with, done};
-    ghost use Rattle.txs_drive.specs.Ready.{state_of, run_of, Keeps, IsBusy, IsGoing, IsFresh, IsTied};
+    ghost use Rattle.txs_drive.specs.Session.{first, started, is_going, dialled_of, hanging, Carries, IfGoing, Stimulates, refused, does, dial_told, send_told, Judges, Heeds, goes_on, seen_run, over_run, ends_with, done};
+    ghost use Rattle.txs_drive.specs.Ready.{state_of, run_of, Keeps, IsBusy, IsGoing, IsFresh, IsTied, IsNext, ToldBy, Judged, HeedsBy, IsPlainRun, IsMoved, AllowedNow, IsObserved, next_number};
 
     /// A session before its first line.
     pub fn new(alloc: Global) -> Session
@@ -83,9 +103,11 @@ impl Session {
 
     /// Begins a run, where there is none.
     fn start(&mut self, alloc: Global, model: &Model) -> Result<(), NoMemory>
-        requires { IsPlain 0 (term_of model.now.start) }
+        requires plain { IsPlain 0 (term_of model.now.start) }
+        requires tied { IsTied (state_of self.old).run }
         ensures started { OnOk result (state_of self.new ≡ started (state_of self.old).run (state_of self.old)) }
         ensures kept { Keeps model.now self.old.run → Keeps model.now self.new.run }
+        ensures plain { IsPlainRun self.old.run → IsPlainRun self.new.run }
         ensures busy { OnOk result (IsBusy (state_of self.new).run (state_of self.new).todo) }
         ensures ends { dialled_of (state_of self.new).run ≡ dialled_of (state_of self.old).run }
     {
@@ -112,18 +134,79 @@ impl Session {
         Ok(())
     }
 
-    /// Sends an action exactly where the rules allow it.
-    fn try_send(&mut self, alloc: Global, model: &Model, value: i128) -> Result<(), NoMemory>
-        requires going { IsGoing (state_of self.old).run }
-        requires kept { Keeps model.now self.old.run }
-        ensures stimulates { OnOk result (IfGoing (state_of self.old).run (state_of self.old) (Stimulates model.now value (state_of self.old)) (state_of self.new)) }
-        ensures busy { OnOk result (IsBusy (state_of self.new).run (state_of self.new).todo) }
-        ensures run { self.new.run ≡ self.old.run }
+    /// The terms after one more action or quiescence; there are some exactly where the rules allow it.
+    fn moved(&self, alloc: Global, seen: Seen) -> Result<Items<Term>, NoMemory>
+        requires going { IsGoing (state_of self.now).run }
+        requires plain { IsPlainRun self.now.run }
+        ensures plain { IfOk result (λ ts. ArePlain (terms_of ts)) }
+        ensures after { IfOk result (λ ts. (m : Model) → Keeps m self.now.run → IsMoved m seen self.now.run ts) }
+        ensures allowed { IfOk result (λ ts. (m : Model) → Keeps m self.now.run → (0 < length ts) ↔ AllowedNow m seen self.now.run) }
     {
         let Some(run) = &self.run else {
             unreachable!()
         };
-        let set = set_after(alloc, run.set.as_slice(), Seen::In(value))?;
+        Ok(set_after(alloc, run.set.as_slice(), seen)?)
+    }
+
+    /// The number of the next element of the trace.
+    fn number(&self) -> usize
+        requires { IsGoing (state_of self.now).run }
+        ensures { result ≡ next_number (state_of self.now).run }
+    {
+        let Some(run) = &self.run else {
+            unreachable!()
+        };
+        run.trace.len() + 1
+    }
+
+    /// Numbers what was seen, and goes on with the terms after it.
+    fn see(&mut self, seen: Seen, set: Items<Term>, todo: Vec<Doing>) -> Result<(), NoMemory>
+        requires going { IsGoing (state_of self.old).run }
+        requires plain { ArePlain (terms_of set) }
+        ensures seen { OnOk result (ToldBy (state_of self.old).run (λ r. goes_on (seen_run seen r) todo.items (state_of self.old)) (state_of self.new)) }
+        ensures going { IsGoing (state_of self.new).run }
+        ensures plain { OnOk result (IsPlainRun self.new.run) }
+        ensures kept { OnOk result ((m : Model) → IsMoved m seen self.old.run set → Keeps m self.new.run) }
+        ensures ends { dialled_of (state_of self.new).run ≡ dialled_of (state_of self.old).run }
+    {
+        let Some(mut run) = self.run.take() else {
+            unreachable!()
+        };
+        let result = run.go_on(seen, set);
+        self.run = Some(run);
+        result?;
+        self.todo = todo;
+        Ok(())
+    }
+
+    /// Numbers what was seen, with which the run ends.
+    fn see_last(&mut self, seen: Seen, todo: Vec<Doing>) -> Result<(), NoMemory>
+        requires going { IsGoing (state_of self.old).run }
+        requires plain { IsPlainRun self.old.run }
+        ensures seen { OnOk result (ToldBy (state_of self.old).run (λ r. goes_on (over_run (seen_run seen r)) todo.items (state_of self.old)) (state_of self.new)) }
+        ensures plain { OnOk result (IsPlainRun self.new.run) }
+        ensures kept { OnOk result ((m : Model) → Keeps m self.new.run) }
+        ensures ends { dialled_of (state_of self.new).run ≡ dialled_of (state_of self.old).run }
+    {
+        let Some(mut run) = self.run.take() else {
+            unreachable!()
+        };
+        let result = run.end_at(seen);
+        self.run = Some(run);
+        result?;
+        self.todo = todo;
+        Ok(())
+    }
+
+    /// Sends an action exactly where the rules allow it.
+    fn try_send(&mut self, alloc: Global, value: i128) -> Result<(), NoMemory>
+        requires going { IsGoing (state_of self.old).run }
+        requires plain { IsPlainRun self.old.run }
+        ensures stimulates { OnOk result ((m : Model) → Keeps m self.old.run → IfGoing (state_of self.old).run (state_of self.old) (Stimulates m value (state_of self.old)) (state_of self.new)) }
+        ensures busy { OnOk result (IsBusy (state_of self.new).run (state_of self.new).todo) }
+        ensures run { self.new.run ≡ self.old.run }
+    {
+        let set = self.moved(alloc, Seen::In(value))?;
         if set.as_slice().is_empty() {
             self.todo = plan(alloc, &[Doing::Say(Note::NotAllowed), Doing::Idle])?;
             return Ok(());
@@ -148,11 +231,13 @@ impl Session {
 
     /// Takes a command line, which is given without its line feed.
     pub fn line(&mut self, alloc: Global, model: &Model, line: &[u8]) -> Result<(), NoMemory>
-        requires plain { IsPlain 0 (term_of model.now.start) }
+        requires start { IsPlain 0 (term_of model.now.start) }
+        requires plain { IsPlainRun self.old.run }
         requires kept { Keeps model.now self.old.run }
         requires tied { IsTied (state_of self.old).run }
         ensures carries { OnOk result (Carries model.now (command_of model.now line.now) (state_of self.old) (state_of self.new)) }
         ensures kept { Keeps model.now self.new.run }
+        ensures plain { IsPlainRun self.new.run }
         ensures busy { OnOk result (IsBusy (state_of self.new).run (state_of self.new).todo) }
         ensures ends { dialled_of (state_of self.new).run ≡ dialled_of (state_of self.old).run }
     {
@@ -169,8 +254,144 @@ impl Session {
                 if !self.is_going() {
                     return Ok(self.refuse(alloc)?);
                 }
-                Ok(self.try_send(alloc, model, value)?)
+                Ok(self.try_send(alloc, value)?)
             }
+        }
+    }
+
+    /// What is to be done next. It is done with this call, but for a call on the system, which waits for its answer.
+    pub fn next(&mut self) -> Doing
+        requires { IsBusy (state_of self.old).run (state_of self.old).todo }
+        ensures next { IsNext result (state_of self.old) (state_of self.new) }
+        ensures kept { (m : Model) → Keeps m self.old.run → Keeps m self.new.run }
+        ensures plain { IsPlainRun self.old.run → IsPlainRun self.new.run }
+    {
+        let doing = self.todo[0];
+        match doing {
+            Doing::Say(note) => {
+                self.todo.remove(0);
+                if is_fail(note) {
+                    self.has_failed = true;
+                }
+            }
+            Doing::HangUp => {
+                self.todo.remove(0);
+                if let Some(run) = &mut self.run {
+                    run.dialled = 0;
+                }
+            }
+            Doing::Idle | Doing::Quit => {
+                self.todo.remove(0);
+            }
+            Doing::Dial | Doing::Wait | Doing::Send(_) => {}
+        }
+        doing
+    }
+
+    /// The answer to `Dial`: whether the ends are dialled.
+    pub fn after_dial(&mut self, alloc: Global, ok: bool) -> Result<(), NoMemory>
+        requires due { (state_of self.old).todo ≡ Doing.Dial ∷ [] }
+        requires fresh { IsFresh (state_of self.old).run }
+        ensures told { OnOk result (ToldBy (state_of self.old).run (λ r. dial_told ok r (state_of self.old)) (state_of self.new)) }
+        ensures kept { (m : Model) → Keeps m self.old.run → Keeps m self.new.run }
+        ensures plain { IsPlainRun self.old.run → IsPlainRun self.new.run }
+        ensures busy { OnOk result (IsBusy (state_of self.new).run (state_of self.new).todo) }
+        ensures ends { dialled_of (state_of self.new).run ≡ (if ok then 1 else 0) }
+    {
+        let Some(run) = &mut self.run else {
+            unreachable!()
+        };
+        if ok {
+            run.dialled = 1;
+            self.todo = plan(alloc, &[Doing::Idle])?;
+            return Ok(());
+        }
+        run.is_over = true;
+        self.todo = plan(alloc, &[Doing::Say(Note::Ended(Ending::Link)), Doing::Idle])?;
+        Ok(())
+    }
+
+    /// Ends the run, whose ends are dialled.
+    fn end(&mut self, alloc: Global, ending: Ending) -> Result<(), NoMemory>
+        requires { IsGoing (state_of self.old).run }
+        ensures ended { OnOk result (ToldBy (state_of self.old).run (λ r. goes_on (over_run r) (ends_with ending r) (state_of self.old)) (state_of self.new)) }
+        ensures kept { (m : Model) → Keeps m self.old.run → Keeps m self.new.run }
+        ensures plain { IsPlainRun self.old.run → IsPlainRun self.new.run }
+        ensures busy { OnOk result (IsBusy (state_of self.new).run (state_of self.new).todo) }
+        ensures ends { dialled_of (state_of self.new).run ≡ dialled_of (state_of self.old).run }
+    {
+        let Some(run) = &mut self.run else {
+            unreachable!()
+        };
+        run.is_over = true;
+        self.todo = plan(
+            alloc,
+            &[
+                Doing::Say(Note::Ended(ending)),
+                Doing::HangUp,
+                Doing::Idle,
+            ],
+        )?;
+        Ok(())
+    }
+
+    /// The answer to `Send`: whether the line was sent.
+    pub fn after_send(&mut self, alloc: Global, value: i128, ok: bool) -> Result<(), NoMemory>
+        requires due { (state_of self.old).todo ≡ Doing.Send value ∷ [] }
+        requires going { IsGoing (state_of self.old).run }
+        requires plain { IsPlainRun self.old.run }
+        ensures told { OnOk result (ToldBy (state_of self.old).run (λ r. send_told value ok r (state_of self.old)) (state_of self.new)) }
+        ensures kept { OnOk result ((m : Model) → Keeps m self.old.run → Keeps m self.new.run) }
+        ensures plain { OnOk result (IsPlainRun self.new.run) }
+        ensures busy { OnOk result (IsBusy (state_of self.new).run (state_of self.new).todo) }
+        ensures ends { dialled_of (state_of self.new).run ≡ dialled_of (state_of self.old).run }
+    {
+        if !ok {
+            return Ok(self.end(alloc, Ending::Link)?);
+        }
+        let number = self.number();
+        let todo = plan(alloc, &[Doing::Say(Note::In { number, value }), Doing::Idle])?;
+        let set = self.moved(alloc, Seen::In(value))?;
+        Ok(self.see(Seen::In(value), set, todo)?)
+    }
+
+    /// Numbers an observation; FAIL follows exactly where the rules do not allow it.
+    fn judge(&mut self, alloc: Global, seen: Seen) -> Result<(), NoMemory>
+        requires observed { IsObserved seen }
+        requires going { IsGoing (state_of self.old).run }
+        requires plain { IsPlainRun self.old.run }
+        ensures judges { OnOk result ((m : Model) → Keeps m self.old.run → Judged m seen (state_of self.old).run (state_of self.old) (state_of self.new)) }
+        ensures kept { OnOk result ((m : Model) → Keeps m self.old.run → Keeps m self.new.run) }
+        ensures plain { OnOk result (IsPlainRun self.new.run) }
+        ensures busy { OnOk result (IsBusy (state_of self.new).run (state_of self.new).todo) }
+        ensures ends { dialled_of (state_of self.new).run ≡ dialled_of (state_of self.old).run }
+    {
+        let note = note_of(self.number(), seen);
+        let set = self.moved(alloc, seen)?;
+        if set.as_slice().is_empty() {
+            let todo = plan_fail(alloc, note)?;
+            return Ok(self.see_last(seen, todo)?);
+        }
+        let todo = plan(alloc, &[Doing::Say(note), Doing::Idle])?;
+        Ok(self.see(seen, set, todo)?)
+    }
+
+    /// The answer to `Wait`, by what it says.
+    pub fn after_wait(&mut self, alloc: Global, sign: Sign) -> Result<(), NoMemory>
+        requires due { (state_of self.old).todo ≡ Doing.Wait ∷ [] }
+        requires going { IsGoing (state_of self.old).run }
+        requires plain { IsPlainRun self.old.run }
+        ensures heeds { OnOk result ((m : Model) → Keeps m self.old.run → HeedsBy m sign (state_of self.old).run (state_of self.old) (state_of self.new)) }
+        ensures kept { OnOk result ((m : Model) → Keeps m self.old.run → Keeps m self.new.run) }
+        ensures plain { OnOk result (IsPlainRun self.new.run) }
+        ensures busy { OnOk result (IsBusy (state_of self.new).run (state_of self.new).todo) }
+        ensures ends { dialled_of (state_of self.new).run ≡ dialled_of (state_of self.old).run }
+    {
+        match sign {
+            Sign::Number(value) => Ok(self.judge(alloc, Seen::Out(value))?),
+            Sign::Quiet => Ok(self.judge(alloc, Seen::Quiet)?),
+            Sign::Breaks => Ok(self.end(alloc, Ending::Link)?),
+            Sign::Later => Ok(self.end(alloc, Ending::Later)?),
         }
     }
 }

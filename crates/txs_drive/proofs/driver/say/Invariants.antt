@@ -1,0 +1,13 @@
+use Rattle.std.proofs.Common.{◌≤◌, List, ℕ, Option, length}
+use Rattle.txs_outside.specs.Known.{Grows}
+use Rattle.txs_drive.proofs.driver.say.Given as goal
+
+-- whatever takes the rest takes the text
+abbrev pub invariant-loop-rest : goal.invariant-loop-rest
+invariant-loop-rest g l = record {
+  told : (k : Option (List ℕ)) → Grows (g.K.Sink.taken l.sink) k l.rest → Grows (g.K.Sink.taken l.fn.sink) k l.text;
+  later : g.K.Sink.faults l.fn.sink ≤ g.K.Sink.faults l.sink;
+}
+
+abbrev pub decreases-loop-rest : goal.decreases-loop-rest
+decreases-loop-rest g l = length l.rest

@@ -1,0 +1,19 @@
+use Rattle.std.proofs.Common.{◌≡◌}
+use Rattle.txs_drive.specs.Ready.{state_of}
+use Rattle.txs_drive.proofs.Calls.{called_wait, heeded_rank, dialled_same}
+use Rattle.txs_drive.proofs.driver.wait.Goals as goal
+
+pub returns-clause-called : goal.returns-clause-called
+returns-clause-called g c =
+    called_wait c.args.model.now (state_of c.args.session.now) (state_of c.after_wait.new.self) _ _ _ _ _ _ c.wait_once-sign.result c.requires.due
+    (c.in_ok-after_wait.ensures.heeds c.args.model.now c.requires.ready.kept) c.wait_once-sign.ensures.called c.wait_once-sign.ensures.hang_ups
+
+pub returns-clause-busy : goal.returns-clause-busy
+returns-clause-busy g c = (c.in_ok-after_wait.ensures.busy, rw c.requires.due (heeded_rank c.args.model.now c.wait_once-sign.result _ _ _ (c.in_ok-after_wait.ensures.heeds c.args.model.now c.requires.ready.kept)))
+
+pub returns-clause-ready : goal.returns-clause-ready
+returns-clause-ready g c = record {
+  kept = c.in_ok-after_wait.ensures.kept c.args.model.now c.requires.ready.kept;
+  plain = c.in_ok-after_wait.ensures.plain;
+  dialled = dialled_same _ _ _ _ c.wait_once-sign.ensures.dialled c.in_ok-after_wait.ensures.ends c.requires.ready.dialled;
+}

@@ -1,0 +1,87 @@
+-- What the parts of a session did to the objects of the outside.
+use Rattle.std.specs.Prelude.{◌≡◌, ◌≢◌, ℕ, ◌≤◌, ◌<◌, Bool, true, false, List, [], ◌∷◌, ◌++◌, Option, length}
+use Rattle.std.specs.List.{AllByRecursion}
+use Rattle.txs_outside.specs.Causes.{Rose}
+use Rattle.txs_outside.specs.Known.{Grows, Adds}
+use Rattle.txs_outside.specs.declared.sut.SutEntry.{SutEntry}
+use Rattle.txs_drive.specs.declared.doing.Doing.TheVariants.{Quit}
+use Rattle.txs_drive.specs.declared.driver.Next.{Next}
+use Rattle.txs_drive.specs.declared.driver.Next.TheVariants as next
+use Rattle.txs_drive.specs.declared.model.Model.{Model}
+use Rattle.txs_outside.specs.declared.sut.Heard.{Heard}
+use Rattle.txs_outside.specs.declared.sut.Heard.TheVariants.{Failed}
+use Rattle.txs_outside.specs.declared.sut.SutCall.TheVariants as call
+use Rattle.txs_drive.specs.declared.sign.Sign.{Sign}
+use Rattle.txs_drive.specs.declared.session.Session as rust
+use Rattle.txs_drive.specs.Session.{State, Run, dialled_of, sign_of}
+use Rattle.txs_drive.specs.Ready.{IsBusy, IsTied, IsPlainRun, Keeps, state_of, rank}
+use Rattle.txs_drive.specs.Course.{Event, entry, does', Leads, lines_in, notes_in, text_of, hung_after, calls_in, AnyFailed}
+
+-- the last event is that the session ends
+abbrev pub IsLeft : List Event → Type 0
+IsLeft es = (before : List Event) × (es ≡ before ++ does' Quit ∷ [])
+
+-- these events led from s to t, the lines were read, and the sink and the system had what comes of them; where q, the session ended
+pub record Went (m : Model) (s t : State) (k0 k1 : Option (List ℕ)) (u0 u1 : Option (List SutEntry)) (h0 h1 : Option ℕ) (f0 f1 : ℕ) (lines : List (List ℕ)) (q : Bool) : Type 0 where
+  pub events : List Event
+  pub leads : Leads m s events t
+  pub read : lines_in events ≡ lines
+  pub text : Grows k0 k1 (text_of m (notes_in events))
+  pub calls : Adds u0 u1 (calls_in m events h0)
+  pub hung : h1 ≡ hung_after events h0
+  pub later : f0 ≤ f1
+  pub caused : AnyFailed events → Rose f0 f1
+  pub left : q ≡ true → IsLeft events
+
+-- a call of the system, and how it was answered
+pub record Called (m : Model) (s t : State) (u0 u1 : Option (List SutEntry)) (h0 h1 : Option ℕ) (f0 f1 : ℕ) : Type 0 where
+  pub event : Event
+  pub leads : Leads m s (event ∷ []) t
+  pub read : lines_in (event ∷ []) ≡ []
+  pub silent : notes_in (event ∷ []) ≡ []
+  pub calls : Adds u0 u1 (calls_in m (event ∷ []) h0)
+  pub hung : h1 ≡ hung_after (event ∷ []) h0
+  pub later : f0 ≤ f1
+  pub caused : AnyFailed (event ∷ []) → Rose f0 f1
+
+-- a wait, and what its answer says
+pub record Waited (u0 u1 : Option (List SutEntry)) (h0 : Option ℕ) (f0 f1 : ℕ) (sign : Sign) : Type 0 where
+  pub heard : Heard
+  pub called : Adds u0 u1 (entry h0 (call.Wait 4096 heard) ∷ [])
+  pub says : sign ≡ sign_of heard
+  pub later : f0 ≤ f1
+  pub caused : heard ≡ Failed → Rose f0 f1
+
+-- what a session keeps, with so many ends of the system dialled
+pub record IsReady (m : Model) (session : rust.Session) (ends : ℕ) : Type 0 where
+  pub kept : Keeps m session.run
+  pub plain : IsPlainRun session.run
+  pub dialled : 0 < dialled_of (state_of session).run → ends ≡ dialled_of (state_of session).run
+
+-- no line feed is among the bytes
+abbrev pub HasNoFeed : List ℕ → Type 0
+HasNoFeed bytes = AllByRecursion (λ b. b ≢ 10) bytes
+
+-- the lines, each with its line feed
+abbrev pub joined : List (List ℕ) → List ℕ
+joined [] = []
+joined (line ∷ lines) = line ++ 10 ∷ joined lines
+
+-- of these bytes some lines were read, and the rest is left
+pub record Took (m : Model) (s t : State) (k0 k1 : Option (List ℕ)) (u0 u1 : Option (List SutEntry)) (h0 h1 : Option ℕ) (f0 f1 : ℕ) (bytes rest : List ℕ) (q : Bool) : Type 0 where
+  pub lines : List (List ℕ)
+  pub split : bytes ≡ joined lines ++ rest
+  pub each : AllByRecursion HasNoFeed lines
+  pub went : Went m s t k0 k1 u0 u1 h0 h1 f0 f1 lines q
+
+-- whether the session ended
+abbrev pub has_left : Next → Bool
+has_left next.GoesOn = false
+has_left next.Idle = false
+has_left next.Quit = true
+
+-- what is left to be done after a step: less than before, or nothing
+abbrev pub IsAhead : Next → State → State → Type 0
+IsAhead next.GoesOn s t = IsBusy t.run t.todo × (rank t.todo < rank s.todo)
+IsAhead next.Idle s t = (t.todo ≡ []) × IsTied t.run
+IsAhead next.Quit s t = t.todo ≡ []

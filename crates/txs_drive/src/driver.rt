@@ -1,0 +1,249 @@
+ghost use Rattle.std.specs.Prelude.{◌≡◌, ◌<◌, [], ◌∷◌, IfOk, OnOk, IsErr, IsErrOf, Ok, if◌then◌else◌};
+ghost use Rattle.txs_outside.specs.Causes.{HasCause};
+ghost use Rattle.txs_outside.specs.Known.{Grows};
+ghost use Rattle.txs_terms.specs.Sets.{IsPlain};
+ghost use Rattle.txs_terms.specs.View.{term_of};
+ghost use Rattle.txs_drive.specs.Session.{dialled_of};
+ghost use Rattle.txs_drive.specs.Ready.{state_of, IsBusy, IsGoing, IsFresh, IsTied, IsPlainRun, Keeps};
+ghost use Rattle.txs_drive.specs.Course.{ends_of};
+ghost use Rattle.txs_drive.specs.Going.{Went, Called, Waited, IsAhead, IsReady, has_left};
+
+use crate::lines::{line_of, sent_line};
+use crate::sign::sign_of;
+use crate::{Doing, Model, Session, Sign};
+use sqlite_items::Items;
+use std::alloc::{AllocError, AllocFailed, Global};
+use txs_outside::{End, Ends, Failed, Sink, Sut};
+use txs_values::NoMemory;
+
+/// Why a session stops before its commands are carried out.
+#[derive(Clone, Copy, Debug, PartialEq, Eq)]
+pub enum Stop {
+    NoMemory,
+    Sink,
+}
+
+/// How a session goes on behind a step.
+#[derive(Clone, Copy, Debug, PartialEq, Eq)]
+pub enum Next {
+    GoesOn,
+    Idle,
+    Quit,
+}
+
+impl From<NoMemory> for Stop {
+    ghost use Rattle.txs_drive.specs.declared.driver.Stop.TheVariants.{NoMemory};
+
+    ghost from_gives = { λ _ e. e ≡ NoMemory };
+
+    fn from(_e: NoMemory) -> Stop {
+        Stop::NoMemory
+    }
+}
+
+impl From<AllocError> for Stop {
+    ghost use Rattle.txs_drive.specs.declared.driver.Stop.TheVariants.{NoMemory};
+
+    ghost from_gives = { λ _ e. e ≡ NoMemory };
+
+    fn from(_e: AllocError) -> Stop {
+        Stop::NoMemory
+    }
+}
+
+impl<T: Drop> From<AllocFailed<T>> for Stop {
+    ghost use Rattle.txs_drive.specs.declared.driver.Stop.TheVariants.{NoMemory};
+
+    ghost from_gives = { λ _ e. e ≡ NoMemory };
+
+    fn from(_e: AllocFailed<T>) -> Stop {
+        Stop::NoMemory
+    }
+}
+
+impl From<Failed> for Stop {
+    ghost use Rattle.txs_drive.specs.declared.driver.Stop.TheVariants.{Sink};
+
+    ghost from_gives = { λ _ e. e ≡ Sink };
+
+    fn from(_e: Failed) -> Stop {
+        Stop::Sink
+    }
+}
+
+/// Writes the whole text.
+pub(crate) fn say<K: Sink>(sink: &mut K, text: &str) -> Result<(), Failed>
+    ensures ok { OnOk result (Grows (K.taken sink.old) (K.taken sink.new) text.now) }
+    ensures cause { HasCause (K.faults sink.old) (K.faults sink.new) (IsErr result) }
+{
+    let mut rest = text.as_bytes();
+    while !rest.is_empty() {
+        let count = sink.write(rest)?;
+        let (_, behind) = rest.split_at(count);
+        rest = behind;
+    }
+    Ok(())
+}
+
+/// The one end of the model's connection.
+fn ends_of(alloc: Global, model: &Model) -> Result<Ends, NoMemory>
+    ensures { IfOk result (λ ends. ends ≡ ends_of model.now) }
+{
+    let mut list = Items::new(alloc);
+    list.push(End {
+        host: model.host.copy(alloc)?,
+        port: model.port,
+    })?;
+    Ok(Ends {
+        listen: false,
+        list,
+    })
+}
+
+/// Dials the ends.
+fn dial<U: Sut>(
+    alloc: Global,
+    model: &Model,
+    session: &mut Session,
+    sut: &mut U,
+) -> Result<(), NoMemory>
+    requires ready { IsReady model.now session.old (U.dialled sut.old) }
+    requires due { (state_of session.old).todo ≡ Doing.Dial ∷ [] }
+    requires fresh { IsFresh (state_of session.old).run }
+    ensures called { OnOk result (Called model.now (state_of session.old) (state_of session.new) (U.calls sut.old) (U.calls sut.new)
+        (U.hang_ups sut.old) (U.hang_ups sut.new) (U.faults sut.old) (U.faults sut.new)) }
+    ensures ready { OnOk result (IsReady model.now session.new (U.dialled sut.new)) }
+    ensures busy { OnOk result (IsAhead Next.GoesOn (state_of session.old) (state_of session.new)) }
+{
+    let ends = ends_of(alloc, model)?;
+    let ok = sut.dial(&ends).is_ok();
+    session.after_dial(alloc, ok)?;
+    Ok(())
+}
+
+/// Waits once, and says what the answer says.
+fn wait_once<U: Sut>(sut: &mut U) -> Sign
+    requires { 0 < U.dialled sut.old }
+    ensures called { Waited (U.calls sut.old) (U.calls sut.new) (U.hang_ups sut.old) (U.faults sut.old) (U.faults sut.new) result }
+    ensures hang_ups { U.hang_ups sut.new ≡ U.hang_ups sut.old }
+    ensures dialled { U.dialled sut.new ≡ U.dialled sut.old }
+{
+    let mut buf = [0u8; 4096];
+    let told = sut.wait(&mut buf);
+    sign_of(told, &buf)
+}
+
+/// Waits for what the system tells next.
+fn wait<U: Sut>(
+    alloc: Global,
+    model: &Model,
+    session: &mut Session,
+    sut: &mut U,
+) -> Result<(), NoMemory>
+    requires ready { IsReady model.now session.old (U.dialled sut.old) }
+    requires due { (state_of session.old).todo ≡ Doing.Wait ∷ [] }
+    requires going { IsGoing (state_of session.old).run }
+    ensures called { OnOk result (Called model.now (state_of session.old) (state_of session.new) (U.calls sut.old) (U.calls sut.new)
+        (U.hang_ups sut.old) (U.hang_ups sut.new) (U.faults sut.old) (U.faults sut.new)) }
+    ensures ready { OnOk result (IsReady model.now session.new (U.dialled sut.new)) }
+    ensures busy { OnOk result (IsAhead Next.GoesOn (state_of session.old) (state_of session.new)) }
+{
+    let sign = wait_once(sut);
+    session.after_wait(alloc, sign)?;
+    Ok(())
+}
+
+/// Sends the line of an action.
+fn send<U: Sut>(
+    alloc: Global,
+    model: &Model,
+    session: &mut Session,
+    value: i128,
+    sut: &mut U,
+) -> Result<(), NoMemory>
+    requires ready { IsReady model.now session.old (U.dialled sut.old) }
+    requires due { (state_of session.old).todo ≡ Doing.Send value ∷ [] }
+    requires going { IsGoing (state_of session.old).run }
+    ensures called { OnOk result (Called model.now (state_of session.old) (state_of session.new) (U.calls sut.old) (U.calls sut.new)
+        (U.hang_ups sut.old) (U.hang_ups sut.new) (U.faults sut.old) (U.faults sut.new)) }
+    ensures ready { OnOk result (IsReady model.now session.new (U.dialled sut.new)) }
+    ensures busy { OnOk result (IsAhead Next.GoesOn (state_of session.old) (state_of session.new)) }
+{
+    let line = sent_line(alloc, value)?;
+    let ok = sut.send(0, line.as_str().as_bytes()).is_ok();
+    session.after_send(alloc, value, ok)?;
+    Ok(())
+}
+
+/// Does what is to be done next.
+fn step<K: Sink, U: Sut>(
+    alloc: Global,
+    model: &Model,
+    session: &mut Session,
+    sink: &mut K,
+    sut: &mut U,
+) -> Result<Next, Stop>
+    requires ready { IsReady model.now session.old (U.dialled sut.old) }
+    requires busy { IsBusy (state_of session.old).run (state_of session.old).todo }
+    ensures went { IfOk result (λ n. Went model.now (state_of session.old) (state_of session.new) (K.taken sink.old) (K.taken sink.new) (U.calls sut.old) (U.calls sut.new)
+        (U.hang_ups sut.old) (U.hang_ups sut.new) (U.faults sut.old) (U.faults sut.new) [] (has_left n)) }
+    ensures ready { OnOk result (IsReady model.now session.new (U.dialled sut.new)) }
+    ensures ahead { IfOk result (λ n. IsAhead n (state_of session.old) (state_of session.new)) }
+    ensures sink { HasCause (K.faults sink.old) (K.faults sink.new) (IsErrOf result Stop.Sink) }
+{
+    match session.next() {
+        Doing::Say(note) => {
+            let line = line_of(alloc, model, note)?;
+            say(sink, line.as_str())?;
+            Ok(Next::GoesOn)
+        }
+        Doing::HangUp => {
+            sut.hang_up();
+            Ok(Next::GoesOn)
+        }
+        Doing::Idle => Ok(Next::Idle),
+        Doing::Quit => Ok(Next::Quit),
+        Doing::Dial => {
+            dial(alloc, model, session, sut)?;
+            Ok(Next::GoesOn)
+        }
+        Doing::Wait => {
+            wait(alloc, model, session, sut)?;
+            Ok(Next::GoesOn)
+        }
+        Doing::Send(value) => {
+            send(alloc, model, session, value, sut)?;
+            Ok(Next::GoesOn)
+        }
+    }
+}
+
+/// Carries out a command line, which is given without its line feed; answers whether the session ends with it.
+pub(crate) fn carry_out<K: Sink, U: Sut>(
+    alloc: Global,
+    model: &Model,
+    session: &mut Session,
+    line: &[u8],
+    sink: &mut K,
+    sut: &mut U,
+) -> Result<bool, Stop>
+    requires start { IsPlain 0 (term_of model.now.start) }
+    requires ready { IsReady model.now session.old (U.dialled sut.old) }
+    requires idle { (state_of session.old).todo ≡ [] }
+    requires tied { IsTied (state_of session.old).run }
+    ensures went { IfOk result (λ q. Went model.now (state_of session.old) (state_of session.new) (K.taken sink.old) (K.taken sink.new) (U.calls sut.old) (U.calls sut.new)
+        (U.hang_ups sut.old) (U.hang_ups sut.new) (U.faults sut.old) (U.faults sut.new) (line.now ∷ []) q) }
+    ensures ready { OnOk result (IsReady model.now session.new (U.dialled sut.new)) }
+    ensures idle { OnOk result ((state_of session.new).todo ≡ []) }
+    ensures tied { OnOk result (IsTied (state_of session.new).run) }
+    ensures sink { HasCause (K.faults sink.old) (K.faults sink.new) (IsErrOf result Stop.Sink) }
+{
+    session.line(alloc, model, line)?;
+    'steps: loop {
+        match step(alloc, model, session, sink, sut)? {
+            Next::GoesOn => {}
+            Next::Idle => return Ok(false),
+            Next::Quit => return Ok(true),
+        }
+    }
+}
