@@ -170,3 +170,17 @@ went_quit m s t k u h f more e d = record {
   caused = λ x. elim x [ inl y ↦ absurd y | inr y ↦ absurd y ];
   left = λ x. ([], refl);
 }
+
+-- nothing happened
+pub went_nowhere : (m : Model) (s : State) (k : Option (List ℕ)) (u : Option (List SutEntry)) (h : Option ℕ) (f : ℕ) → Went m s s k k u u h h f f [] false
+went_nowhere m s k u h f = record {
+  events = [];
+  leads = stays;
+  read = refl;
+  text = Grows-none k;
+  calls = Adds-none u;
+  hung = refl;
+  later = omega arith;
+  caused = λ x. absurd x;
+  left = λ x. cc;
+}

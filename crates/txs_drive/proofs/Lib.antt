@@ -3,3 +3,4 @@ pub mod Numbers
 pub mod Sessions
 pub mod Courses
 pub mod Calls
+pub mod Feeding

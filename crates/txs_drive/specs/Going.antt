@@ -1,5 +1,5 @@
 -- What the parts of a session did to the objects of the outside.
-use Rattle.std.specs.Prelude.{◌≡◌, ◌≢◌, ℕ, ◌≤◌, ◌<◌, Bool, true, false, List, [], ◌∷◌, ◌++◌, Option, length}
+use Rattle.std.specs.Prelude.{◌≡◌, ◌≢◌, ℕ, ◌≤◌, ◌<◌, Bool, true, false, List, [], ◌∷◌, ◌++◌, Option, Some, length}
 use Rattle.std.specs.List.{AllByRecursion}
 use Rattle.txs_outside.specs.Causes.{Rose}
 use Rattle.txs_outside.specs.Known.{Grows, Adds}
@@ -7,13 +7,18 @@ use Rattle.txs_outside.specs.declared.sut.SutEntry.{SutEntry}
 use Rattle.txs_drive.specs.declared.doing.Doing.TheVariants.{Quit}
 use Rattle.txs_drive.specs.declared.driver.Next.{Next}
 use Rattle.txs_drive.specs.declared.driver.Next.TheVariants as next
+use Rattle.txs_drive.specs.declared.feed.Finish.{Finish}
+use Rattle.txs_drive.specs.declared.feed.Finish.TheVariants as finish
+use Rattle.txs_drive.specs.declared.feed.Read.{Read}
+use Rattle.txs_drive.specs.declared.feed.Read.TheVariants as read
 use Rattle.txs_drive.specs.declared.model.Model.{Model}
+use Rattle.txs_drive.specs.Served.{Ending, end, last_part, command_lines, Gave, Rests, by_fail, status_of}
 use Rattle.txs_outside.specs.declared.sut.Heard.{Heard}
 use Rattle.txs_outside.specs.declared.sut.Heard.TheVariants.{Failed}
 use Rattle.txs_outside.specs.declared.sut.SutCall.TheVariants as call
 use Rattle.txs_drive.specs.declared.sign.Sign.{Sign}
 use Rattle.txs_drive.specs.declared.session.Session as rust
-use Rattle.txs_drive.specs.Session.{State, Run, dialled_of, sign_of}
+use Rattle.txs_drive.specs.Session.{State, Run, first, dialled_of, sign_of}
 use Rattle.txs_drive.specs.Ready.{IsBusy, IsTied, IsPlainRun, Keeps, state_of, rank}
 use Rattle.txs_drive.specs.Course.{Event, entry, does', Leads, lines_in, notes_in, text_of, hung_after, calls_in, AnyFailed}
 
@@ -85,3 +90,66 @@ abbrev pub IsAhead : Next → State → State → Type 0
 IsAhead next.GoesOn s t = IsBusy t.run t.todo × (rank t.todo < rank s.todo)
 IsAhead next.Idle s t = (t.todo ≡ []) × IsTied t.run
 IsAhead next.Quit s t = t.todo ≡ []
+
+-- as Took, where the rest is what is pending unless the session ended
+abbrev pub TookSome : Model → State → State → Option (List ℕ) → Option (List ℕ) → Option (List SutEntry) → Option (List SutEntry) → Option ℕ → Option ℕ → ℕ → ℕ → List ℕ → List ℕ → Bool → Type 0
+TookSome m s t k0 k1 u0 u1 h0 h1 f0 f1 bytes pending q =
+    (rest : List ℕ) × Took m s t k0 k1 u0 u1 h0 h1 f0 f1 bytes rest q × (q ≡ false → rest ≡ pending)
+
+-- the bytes of a read
+abbrev pub read_bytes : Read → List ℕ
+read_bytes (read.Piece bytes) = bytes
+read_bytes read.End = []
+read_bytes read.Failed = []
+
+-- a piece has a byte, and fits the room
+abbrev pub IsRead : ℕ → Read → Type 0
+IsRead room (read.Piece bytes) = (0 < length bytes) × (length bytes ≤ room)
+IsRead room read.End = Unit {0}
+IsRead room read.Failed = Unit {0}
+
+-- whether a `quit` was met
+abbrev pub has_quit_at : Finish → Bool
+has_quit_at finish.Quit = true
+has_quit_at finish.End = false
+has_quit_at finish.Failed = false
+has_quit_at finish.TooLong = false
+
+-- the last line was carried out, where it has bytes
+abbrev pub Ended : Model → State → State → Option (List ℕ) → Option (List ℕ) → Option (List SutEntry) → Option (List SutEntry) → Option ℕ → Option ℕ → ℕ → ℕ → List ℕ → Finish → Type 0
+Ended m s t k0 k1 u0 u1 h0 h1 f0 f1 line f =
+    Went m s t k0 k1 u0 u1 h0 h1 f0 f1 (last_part end line) (has_quit_at f) × IsAtEnd f
+  where
+    IsAtEnd : Finish → Type 0
+    IsAtEnd finish.Quit = Unit {0}
+    IsAtEnd finish.End = Unit {0}
+    IsAtEnd finish.Failed = ⊥
+    IsAtEnd finish.TooLong = ⊥
+
+-- the status that a session ends with
+abbrev pub code_of : Finish → Bool → ℕ
+code_of finish.Quit failed = by_fail failed
+code_of finish.End failed = by_fail failed
+code_of finish.Failed failed = 3
+code_of finish.TooLong failed = 6
+
+-- the commands of a source were carried out up to their end
+pub record Conversed (m : Model) (f : Finish) (t : State) (g0 g1 : Option (List ℕ)) (at_end : Bool) (k0 k1 : Option (List ℕ)) (u0 u1 : Option (List SutEntry)) (h0 h1 : Option ℕ) (f0 f1 : ℕ) : Type 0 where
+  pub given : List ℕ
+  pub commands : List ℕ
+  pub ending : Ending
+  pub has_quit : Bool
+  pub events : List Event
+  pub behind : List (List ℕ)
+  pub gave : Grows g0 g1 given
+  pub split : Gave ending given commands
+  pub ended : ending ≡ end → at_end ≡ true
+  pub leads : Leads m first events t
+  pub lines : command_lines commands ending ≡ lines_in events ++ behind
+  pub rests : Rests has_quit t behind events
+  pub text : Grows k0 k1 (text_of m (notes_in events))
+  pub calls : Adds u0 u1 (calls_in m events h0)
+  pub hung : h1 ≡ hung_after events h0
+  pub later : f0 ≤ f1
+  pub caused : AnyFailed events → Rose f0 f1
+  pub status : (failed : Bool) → status_of ending has_quit failed ≡ Some (code_of f failed)

@@ -123,3 +123,8 @@ Judged m x (Some r) s t = Judges m x r s t
 abbrev pub HeedsBy : Model → Sign → Option Run → State → State → Type 0
 HeedsBy m x None s t = ⊥
 HeedsBy m x (Some r) s t = Heeds m x r s t
+
+-- how many ends are dialled after a doing
+abbrev pub ends_after : Doing → ℕ → ℕ
+ends_after HangUp n = 0
+ends_after _ n = n

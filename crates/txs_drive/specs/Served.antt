@@ -46,7 +46,7 @@ abbrev pub command_lines : List ℕ → Ending → List (List ℕ)
 command_lines bytes e = lines_of_parts e (parts bytes)
 
 -- the most bytes of commands that are carried out
-unfoldable pub byte_limit : ℕ
+abbrev pub byte_limit : ℕ
 byte_limit = 16777216
 
 -- The source gave these bytes as commands, and at the limit one byte past them.

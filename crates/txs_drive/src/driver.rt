@@ -1,4 +1,4 @@
-ghost use Rattle.std.specs.Prelude.{◌≡◌, ◌<◌, [], ◌∷◌, IfOk, OnOk, IsErr, IsErrOf, Ok, if◌then◌else◌};
+ghost use Rattle.std.specs.Prelude.{◌≡◌, ◌<◌, false, [], ◌∷◌, IfOk, OnOk, IsErr, IsErrOf, Ok, if◌then◌else◌};
 ghost use Rattle.txs_outside.specs.Causes.{HasCause};
 ghost use Rattle.txs_outside.specs.Known.{Grows};
 ghost use Rattle.txs_terms.specs.Sets.{IsPlain};
@@ -235,7 +235,7 @@ pub(crate) fn carry_out<K: Sink, U: Sut>(
         (U.hang_ups sut.old) (U.hang_ups sut.new) (U.faults sut.old) (U.faults sut.new) (line.now ∷ []) q) }
     ensures ready { OnOk result (IsReady model.now session.new (U.dialled sut.new)) }
     ensures idle { OnOk result ((state_of session.new).todo ≡ []) }
-    ensures tied { OnOk result (IsTied (state_of session.new).run) }
+    ensures tied { IfOk result (λ q. q ≡ false → IsTied (state_of session.new).run) }
     ensures sink { HasCause (K.faults sink.old) (K.faults sink.new) (IsErrOf result Stop.Sink) }
 {
     session.line(alloc, model, line)?;

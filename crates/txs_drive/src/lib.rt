@@ -4,6 +4,7 @@
 mod command;
 mod doing;
 mod driver;
+mod feed;
 
 mod lines;
 mod model;
@@ -16,6 +17,7 @@ mod sign;
 pub use command::{Command, read_command};
 pub use doing::Doing;
 pub use driver::{Next, Stop};
+pub use feed::{Finish, Read};
 pub use model::Model;
 pub use note::{Ending, Note, Seen};
 pub use run::Run;

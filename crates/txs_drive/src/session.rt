@@ -60,7 +60,7 @@ impl Session {
     ghost use Rattle.txs_drive.specs.Commands.{command_of};
     ghost use Rattle.txs_drive.specs.Course.{asks_nothing};
     ghost use Rattle.txs_drive.specs.Session.{first, started, is_going, dialled_of, hanging, Carries, IfGoing, Stimulates, refused, does, dial_told, send_told, Judges, Heeds, goes_on, seen_run, over_run, ends_with, done};
-    ghost use Rattle.txs_drive.specs.Ready.{state_of, run_of, Keeps, IsBusy, IsGoing, IsFresh, IsTied, IsNext, ToldBy, Judged, HeedsBy, IsPlainRun, IsMoved, AllowedNow, IsObserved, next_number};
+    ghost use Rattle.txs_drive.specs.Ready.{state_of, run_of, Keeps, IsBusy, IsGoing, IsFresh, IsTied, IsNext, ToldBy, Judged, HeedsBy, IsPlainRun, IsMoved, AllowedNow, IsObserved, next_number, ends_after};
 
     /// A session before its first line.
     pub fn new(alloc: Global) -> Session
@@ -263,6 +263,7 @@ impl Session {
     pub fn next(&mut self) -> Doing
         requires { IsBusy (state_of self.old).run (state_of self.old).todo }
         ensures next { IsNext result (state_of self.old) (state_of self.new) }
+        ensures ends { dialled_of (state_of self.new).run ≡ ends_after result (dialled_of (state_of self.old).run) }
         ensures kept { (m : Model) → Keeps m self.old.run → Keeps m self.new.run }
         ensures plain { IsPlainRun self.old.run → IsPlainRun self.new.run }
     {

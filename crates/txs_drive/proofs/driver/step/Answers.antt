@@ -1,0 +1,77 @@
+use Rattle.std.proofs.Common.{◌≡◌, ◌<◌, ◌∙◌, ℕ, List, refl, arith, subst, rules}
+use Rattle.txs_drive.specs.Lines.{line_of}
+use Rattle.txs_drive.specs.Ready.{state_of}
+use Rattle.txs_drive.specs.Going.{IsReady}
+use Rattle.txs_drive.proofs.Calls.{dialled_same}
+use Rattle.txs_drive.proofs.Courses.{went_said, went_hung, went_idle, went_quit, went_called}
+use Rattle.txs_drive.proofs.driver.step.Goals as goal
+
+pub dial-requires-clause-ready : goal.dial-requires-clause-ready
+dial-requires-clause-ready g c = record {
+  kept = c.in-Dial.ensures.kept c.args.model.now c.requires.ready.kept;
+  plain = c.in-Dial.ensures.plain c.requires.ready.plain;
+  dialled = dialled_same _ _ _ _ refl c.in-Dial.ensures.ends c.requires.ready.dialled;
+}
+
+pub wait-requires-clause-ready : goal.wait-requires-clause-ready
+wait-requires-clause-ready g c = record {
+  kept = c.in-Wait.ensures.kept c.args.model.now c.requires.ready.kept;
+  plain = c.in-Wait.ensures.plain c.requires.ready.plain;
+  dialled = dialled_same _ _ _ _ refl c.in-Wait.ensures.ends c.requires.ready.dialled;
+}
+
+pub send-requires-clause-ready : goal.send-requires-clause-ready
+send-requires-clause-ready g c = record {
+  kept = c.in-Send.ensures.kept c.args.model.now c.requires.ready.kept;
+  plain = c.in-Send.ensures.plain c.requires.ready.plain;
+  dialled = dialled_same _ _ _ _ refl c.in-Send.ensures.ends c.requires.ready.dialled;
+}
+
+pub returns-in_ok-say-in-Say-clause-went : goal.returns-in_ok-say-in-Say-clause-went
+returns-in_ok-say-in-Say-clause-went g c =
+    let n = c.in-Say.ensures.next in
+    let line : c.as_str.result.now ≡ line_of c.args.model.now c.in-Say.note = search rules in
+    went_said c.args.model.now (state_of c.args.session.now) (state_of c.next.new.self) _ _ _ _ _ c.in-Say.note n.0 c.as_str.result.now n.1 n.2 line c.in_ok-say-in-Say.ensures.ok
+
+pub returns-in_ok-say-in-Say-clause-ready : goal.returns-in_ok-say-in-Say-clause-ready
+returns-in_ok-say-in-Say-clause-ready g c = record {
+  kept = c.in-Say.ensures.kept c.args.model.now c.requires.ready.kept;
+  plain = c.in-Say.ensures.plain c.requires.ready.plain;
+  dialled = dialled_same _ _ _ _ refl c.in-Say.ensures.ends c.requires.ready.dialled;
+}
+
+pub returns-in-HangUp-clause-went : goal.returns-in-HangUp-clause-went
+returns-in-HangUp-clause-went g c =
+    let n = c.in-HangUp.ensures.next in
+    went_hung c.args.model.now (state_of c.args.session.now) (state_of c.next.new.self) _ _ _ _ _ _ _ n.0 n.1 n.2 c.hang_up.ensures.calls c.hang_up.ensures.hang_ups c.hang_up.ensures.faults
+
+pub returns-in-HangUp-clause-ready : goal.returns-in-HangUp-clause-ready
+returns-in-HangUp-clause-ready g c = record {
+  kept = c.in-HangUp.ensures.kept c.args.model.now c.requires.ready.kept;
+  plain = c.in-HangUp.ensures.plain c.requires.ready.plain;
+  dialled = λ lt. absurd (omega (arith, lt, c.in-HangUp.ensures.ends));
+}
+
+pub returns-in-Idle-clause-went : goal.returns-in-Idle-clause-went
+returns-in-Idle-clause-went g c =
+    let n = c.in-Idle.ensures.next in
+    went_idle c.args.model.now (state_of c.args.session.now) (state_of c.next.new.self) _ _ _ _ n.0 n.1 n.2
+
+pub returns-in-Idle-clause-ready : goal.returns-in-Idle-clause-ready
+returns-in-Idle-clause-ready g c = record {
+  kept = c.in-Idle.ensures.kept c.args.model.now c.requires.ready.kept;
+  plain = c.in-Idle.ensures.plain c.requires.ready.plain;
+  dialled = dialled_same _ _ _ _ refl c.in-Idle.ensures.ends c.requires.ready.dialled;
+}
+
+pub returns-in-Quit-clause-went : goal.returns-in-Quit-clause-went
+returns-in-Quit-clause-went g c =
+    let n = c.in-Quit.ensures.next in
+    went_quit c.args.model.now (state_of c.args.session.now) (state_of c.next.new.self) _ _ _ _ n.0 n.1 n.2
+
+pub returns-in-Quit-clause-ready : goal.returns-in-Quit-clause-ready
+returns-in-Quit-clause-ready g c = record {
+  kept = c.in-Quit.ensures.kept c.args.model.now c.requires.ready.kept;
+  plain = c.in-Quit.ensures.plain c.requires.ready.plain;
+  dialled = dialled_same _ _ _ _ refl c.in-Quit.ensures.ends c.requires.ready.dialled;
+}

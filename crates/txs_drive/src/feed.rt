@@ -1,0 +1,201 @@
+ghost use Rattle.std.specs.Prelude.{◌≡◌, ◌<◌, ◌≤◌, ◌+◌, ◌++◌, ◌∷◌, [], true, false, IfOk, OnOk, IsErrOf, IsTrue, Ok};
+ghost use Rattle.txs_outside.specs.Causes.{HasCause};
+ghost use Rattle.txs_outside.specs.Known.{Grows};
+ghost use Rattle.txs_terms.specs.Sets.{IsPlain};
+ghost use Rattle.txs_terms.specs.View.{term_of};
+ghost use Rattle.txs_drive.specs.Session.{first};
+ghost use Rattle.txs_drive.specs.Ready.{state_of, IsTied};
+ghost use Rattle.txs_drive.specs.Going.{Took, TookSome, IsReady, HasNoFeed, Conversed, Ended, read_bytes, IsRead};
+
+use crate::driver::carry_out;
+use crate::{Model, Session, Stop};
+use std::alloc::Global;
+use txs_outside::{Got, Sink, Source, Sut};
+use txs_values::{Bytes, NoMemory};
+
+/// The most bytes of commands.
+const LIMIT: usize = 16_777_216;
+
+/// How the commands came to their end.
+#[derive(Clone, Copy, Debug, PartialEq, Eq)]
+pub enum Finish {
+    Quit,
+    End,
+    Failed,
+    TooLong,
+}
+
+/// What a read gave.
+#[derive(Debug, Drop)]
+pub enum Read {
+    Piece(Bytes),
+    End,
+    Failed,
+}
+
+/// Takes a byte of the commands; answers whether the session ends with it.
+fn take_byte<K: Sink, U: Sut>(
+    alloc: Global,
+    model: &Model,
+    session: &mut Session,
+    pending: &mut Bytes,
+    byte: u8,
+    sink: &mut K,
+    sut: &mut U,
+) -> Result<bool, Stop>
+    requires start { IsPlain 0 (term_of model.now.start) }
+    requires ready { IsReady model.now session.old (U.dialled sut.old) }
+    requires idle { (state_of session.old).todo ≡ [] }
+    requires tied { IsTied (state_of session.old).run }
+    requires line { HasNoFeed pending.old }
+    ensures took { IfOk result (λ q. Took model.now (state_of session.old) (state_of session.new) (K.taken sink.old) (K.taken sink.new) (U.calls sut.old) (U.calls sut.new)
+        (U.hang_ups sut.old) (U.hang_ups sut.new) (U.faults sut.old) (U.faults sut.new)
+        (pending.old ++ byte ∷ []) pending.new q) }
+    ensures ready { OnOk result (IsReady model.now session.new (U.dialled sut.new)) }
+    ensures idle { OnOk result ((state_of session.new).todo ≡ []) }
+    ensures tied { IfOk result (λ q. q ≡ false → IsTied (state_of session.new).run) }
+    ensures line { OnOk result (HasNoFeed pending.new) }
+    ensures sink { HasCause (K.faults sink.old) (K.faults sink.new) (IsErrOf result Stop.Sink) }
+{
+    if byte == b'\n' {
+        let quits = carry_out(alloc, model, session, pending.as_slice(), sink, sut)?;
+        pending.clear();
+        Ok(quits)
+    } else {
+        pending.push(byte)?;
+        Ok(false)
+    }
+}
+
+/// Takes a piece of the commands; answers whether the session ends with it.
+fn take_piece<K: Sink, U: Sut>(
+    alloc: Global,
+    model: &Model,
+    session: &mut Session,
+    pending: &mut Bytes,
+    piece: &[u8],
+    sink: &mut K,
+    sut: &mut U,
+) -> Result<bool, Stop>
+    requires start { IsPlain 0 (term_of model.now.start) }
+    requires ready { IsReady model.now session.old (U.dialled sut.old) }
+    requires idle { (state_of session.old).todo ≡ [] }
+    requires tied { IsTied (state_of session.old).run }
+    requires line { HasNoFeed pending.old }
+    ensures took { IfOk result (λ q. TookSome model.now (state_of session.old) (state_of session.new) (K.taken sink.old) (K.taken sink.new) (U.calls sut.old) (U.calls sut.new)
+        (U.hang_ups sut.old) (U.hang_ups sut.new) (U.faults sut.old) (U.faults sut.new)
+        (pending.old ++ piece.now) pending.new q) }
+    ensures ready { OnOk result (IsReady model.now session.new (U.dialled sut.new)) }
+    ensures idle { OnOk result ((state_of session.new).todo ≡ []) }
+    ensures tied { IfOk result (λ q. q ≡ false → IsTied (state_of session.new).run) }
+    ensures line { OnOk result (HasNoFeed pending.new) }
+    ensures sink { HasCause (K.faults sink.old) (K.faults sink.new) (IsErrOf result Stop.Sink) }
+{
+    for b in piece {
+        if take_byte(alloc, model, session, pending, *b, sink, sut)? {
+            return Ok(true);
+        }
+    }
+    Ok(false)
+}
+
+fn read_piece<S: Source>(alloc: Global, source: &mut S, room: usize) -> Result<Read, NoMemory>
+    requires some { 0 < room }
+    requires most { room ≤ 4096 }
+    ensures given { IfOk result (λ r. Grows (S.given source.old) (S.given source.new) (read_bytes r)) }
+    ensures size { IfOk result (λ r. IsRead room r) }
+    ensures end { IfOk result (λ r. r ≡ Read.End → S.at_end source.new ≡ true) }
+    ensures cause { HasCause (S.faults source.old) (S.faults source.new) (result ≡ Ok Read.Failed) }
+{
+    let mut buf = [0u8; 4096];
+    match source.read(&mut buf[..room]) {
+        Got::Bytes { len } => Ok(Read::Piece(Bytes::from_slice(alloc, &buf[..len])?)),
+        Got::End => Ok(Read::End),
+        Got::Failed => Ok(Read::Failed),
+    }
+}
+
+/// How much is read next.
+fn room_left(taken: usize) -> usize
+    requires { taken ≤ 16777216 }
+    ensures some { 0 < result }
+    ensures most { result ≤ 4096 }
+    ensures within { taken < 16777216 → result + taken ≤ 16777216 }
+    ensures one { taken ≡ 16777216 → result ≡ 1 }
+{
+    if taken == LIMIT {
+        1
+    } else {
+        (LIMIT - taken).min(4096)
+    }
+}
+
+/// Takes the last line, which lacks its line feed.
+fn take_last<K: Sink, U: Sut>(
+    alloc: Global,
+    model: &Model,
+    session: &mut Session,
+    line: &[u8],
+    sink: &mut K,
+    sut: &mut U,
+) -> Result<Finish, Stop>
+    requires start { IsPlain 0 (term_of model.now.start) }
+    requires ready { IsReady model.now session.old (U.dialled sut.old) }
+    requires idle { (state_of session.old).todo ≡ [] }
+    requires tied { IsTied (state_of session.old).run }
+    ensures went { IfOk result (λ f. Ended model.now (state_of session.old) (state_of session.new) (K.taken sink.old) (K.taken sink.new) (U.calls sut.old) (U.calls sut.new)
+        (U.hang_ups sut.old) (U.hang_ups sut.new) (U.faults sut.old) (U.faults sut.new)
+        line.now f) }
+    ensures ready { OnOk result (IsReady model.now session.new (U.dialled sut.new)) }
+    ensures idle { OnOk result ((state_of session.new).todo ≡ []) }
+    ensures sink { HasCause (K.faults sink.old) (K.faults sink.new) (IsErrOf result Stop.Sink) }
+{
+    if line.is_empty() {
+        return Ok(Finish::End);
+    }
+    if carry_out(alloc, model, session, line, sink, sut)? {
+        return Ok(Finish::Quit);
+    }
+    Ok(Finish::End)
+}
+
+/// Carries out the commands of the source.
+pub(crate) fn converse<S: Source, K: Sink, U: Sut>(
+    alloc: Global,
+    model: &Model,
+    session: &mut Session,
+    source: &mut S,
+    sink: &mut K,
+    sut: &mut U,
+) -> Result<Finish, Stop>
+    requires start { IsPlain 0 (term_of model.now.start) }
+    requires ready { IsReady model.now session.old (U.dialled sut.old) }
+    requires new { state_of session.old ≡ first }
+    ensures conversed { IfOk result (λ f. Conversed model.now f (state_of session.new) (S.given source.old) (S.given source.new) (S.at_end source.new) (K.taken sink.old) (K.taken sink.new) (U.calls sut.old) (U.calls sut.new)
+        (U.hang_ups sut.old) (U.hang_ups sut.new) (U.faults sut.old) (U.faults sut.new)) }
+    ensures ready { OnOk result (IsReady model.now session.new (U.dialled sut.new)) }
+    ensures source { HasCause (S.faults source.old) (S.faults source.new) (result ≡ Ok Finish.Failed) }
+    ensures sink { HasCause (K.faults sink.old) (K.faults sink.new) (IsErrOf result Stop.Sink) }
+{
+    let mut pending = Bytes::new(alloc);
+    let mut taken: usize = 0;
+    'reads: loop {
+        match read_piece(alloc, source, room_left(taken))? {
+            Read::Failed => return Ok(Finish::Failed),
+            Read::End => {
+                let finish = take_last(alloc, model, session, pending.as_slice(), sink, sut)?;
+                return Ok(finish);
+            }
+            Read::Piece(piece) => {
+                if taken == LIMIT {
+                    return Ok(Finish::TooLong);
+                }
+                taken += piece.len();
+                let piece = piece.as_slice();
+                if take_piece(alloc, model, session, &mut pending, piece, sink, sut)? {
+                    return Ok(Finish::Quit);
+                }
+            }
+        }
+    }
+}
