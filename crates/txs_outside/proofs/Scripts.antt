@@ -1,5 +1,5 @@
 -- What an entry that is not passed over has.
-use Rattle.std.proofs.Common.{◌≡◌, ℕ, ◌<◌, List, length, drop, false, true, Bool, not, ◌||◌, nat_lt, nat_eq, arith}
+use Rattle.std.proofs.Common.{◌≡◌, ℕ, ◌<◌, List, length, false, arith}
 use Rattle.std.proofs.lemmas.Grind.{common_steps}
 use Rattle.txs_outside.specs.Script.{is_passed, cut}
 use Rattle.txs_outside.specs.declared.playing.ScriptEntry.TheVariants.{Piece, Ended}

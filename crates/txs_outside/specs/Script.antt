@@ -1,5 +1,5 @@
 -- What a script tells next, and what is left of it.
-use Rattle.std.specs.Prelude.{ℕ, ◌<◌, Bool, true, false, nat_lt, not, ◌||◌, ◌==◌, List, [], ◌∷◌, length, take, drop, if◌then◌else◌}
+use Rattle.std.specs.Prelude.{ℕ, Bool, true, false, nat_lt, not, ◌||◌, ◌==◌, List, [], ◌∷◌, length, take, drop, if◌then◌else◌}
 use Rattle.txs_outside.specs.declared.sut.Heard.{Heard}
 use Rattle.txs_outside.specs.declared.sut.Heard.TheVariants as heard
 use Rattle.txs_outside.specs.declared.playing.ScriptEntry.{ScriptEntry}

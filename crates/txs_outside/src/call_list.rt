@@ -41,10 +41,10 @@ impl CallList {
         ensures lost { OnErr result (self.new ≡ None) }
         ensures in_memory { IsErr call → IsErr result }
     {
-        if let Ok(call) = call {
-            if self.is_lost || self.entries.push(SutEntry { call, hang_ups }).is_ok() {
-                return Ok(());
-            }
+        if let Ok(call) = call
+            && (self.is_lost || self.entries.push(SutEntry { call, hang_ups }).is_ok())
+        {
+            return Ok(());
         }
         self.is_lost = true;
         Err(NoMemory)

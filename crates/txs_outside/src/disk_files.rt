@@ -66,3 +66,27 @@ fn read_file<R: Read>(alloc: Global, reader: &mut R) -> Result<Bytes, FilesFault
     }
     Err(FilesFault::TooBig)
 }
+
+#[cfg(test)]
+mod tests {
+    use super::*;
+    use std::fs;
+    use std::test::Fail;
+
+    #[test]
+    fn reads_up_to_the_most(rt: HostRuntime) -> Result<(), Fail> {
+        let alloc = rt.alloc();
+        let name = "disk_files_test.bytes";
+        let mut files = DiskFiles::new(&rt);
+        assert_eq!(rt; files.read_all(alloc, name).err(), Some(FilesFault::Failed));
+        let mut bytes = vec![in alloc; 7u8; MOST]?;
+        fs::write(&rt, name, bytes.as_slice())?;
+        let whole = files.read_all(alloc, name).ok().ok_or("whole")?;
+        assert_eq!(rt; whole.len(), MOST);
+        bytes.push(7)?;
+        fs::write(&rt, name, bytes.as_slice())?;
+        assert_eq!(rt; files.read_all(alloc, name).err(), Some(FilesFault::TooBig));
+        fs::remove_file(&rt, name)?;
+        Ok(())
+    }
+}

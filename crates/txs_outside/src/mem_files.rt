@@ -57,3 +57,45 @@ impl Files for MemFiles {
         copy_whole(alloc, bytes)
     }
 }
+
+#[cfg(test)]
+mod tests {
+    use super::*;
+    use crate::{NamedFile, SureFiles};
+    use sqlite_items::Items;
+    use std::test::Fail;
+    use txs_values::Text;
+
+    fn two_of_one_name(alloc: Global) -> Result<NamedFiles, Fail> {
+        let mut files = Items::new(alloc);
+        for bytes in ["first", "second"] {
+            files.push(NamedFile {
+                name: Text::from_str(alloc, "a.txs")?,
+                bytes: Bytes::from_slice(alloc, bytes.as_bytes())?,
+            })?;
+        }
+        Ok(files)
+    }
+
+    #[test]
+    fn reads_the_first_and_fails_where_listed(rt: HostRuntime) -> Result<(), Fail> {
+        let alloc = rt.alloc();
+        let mut fails = Vec::new(alloc);
+        fails.push(2)?;
+        let mut files = MemFiles::new(two_of_one_name(alloc)?, Numbers::from_vec(fails));
+        let first = files.read_all(alloc, "a.txs").ok().ok_or("held")?;
+        assert_eq!(rt; first.as_slice(), b"first".as_slice());
+        assert_eq!(rt;
+            files.read_all(alloc, "a.txs").err(),
+            Some(FilesFault::Failed)
+        );
+        assert_eq!(rt;
+            files.read_all(alloc, "b.txs").err(),
+            Some(FilesFault::Failed)
+        );
+        let mut sure = SureFiles::new(two_of_one_name(alloc)?);
+        let empty = sure.read_all(alloc, "b.txs").ok().ok_or("sure")?;
+        assert_eq!(rt; empty.len(), 0);
+        Ok(())
+    }
+}

@@ -21,12 +21,11 @@ pub struct MemSut {
 
 impl Model for MemSut {
     ghost use Rattle.txs_outside.specs.Memory.{MemSutState};
-    ghost use Rattle.txs_outside.specs.Script.{rest_at};
 
     ghost Value = { MemSutState };
 
     ghost view = { λ s. record {
-      script = rest_at s.playing.script s.playing.place;
+      script = s.playing;
       dialled = s.dialled;
       calls = s.list;
       hang_ups = s.hang_ups;
@@ -107,34 +106,38 @@ impl Sut for MemSut {
     }
 
     fn poll(&mut self, buf: &mut [u8]) -> Told {
-        let (told, place) = match self.failing.call() {
-            Ok(()) => self.playing.poll(self.dialled, buf),
-            Err(Failed) => (Told::Failed, self.playing.place),
+        let dialled = self.dialled;
+        let place = self.playing.place;
+        let told = match self.failing.call() {
+            Ok(()) => self.playing.poll(dialled, buf),
+            Err(Failed) => Told::Failed,
         };
         let room = buf.len();
-        let heard = heard(self.alloc, self.dialled, told, buf);
+        let heard = heard(self.alloc, dialled, told, buf);
         let call = heard.map(|heard| SutCall::Poll { room, heard });
         if self.list.enter(call, self.hang_ups).is_err() {
+            self.playing.place = place;
             self.failing.fault();
             return Told::Failed;
         }
-        self.playing.place = place;
         told
     }
 
     fn wait(&mut self, buf: &mut [u8]) -> Told {
-        let (told, place) = match self.failing.call() {
-            Ok(()) => self.playing.wait(self.dialled, buf),
-            Err(Failed) => (Told::Failed, self.playing.place),
+        let dialled = self.dialled;
+        let place = self.playing.place;
+        let told = match self.failing.call() {
+            Ok(()) => self.playing.wait(dialled, buf),
+            Err(Failed) => Told::Failed,
         };
         let room = buf.len();
-        let heard = heard(self.alloc, self.dialled, told, buf);
+        let heard = heard(self.alloc, dialled, told, buf);
         let call = heard.map(|heard| SutCall::Wait { room, heard });
         if self.list.enter(call, self.hang_ups).is_err() {
+            self.playing.place = place;
             self.failing.fault();
             return Told::Failed;
         }
-        self.playing.place = place;
         told
     }
 
@@ -157,3 +160,6 @@ impl Sut for MemSut {
         self.hang_ups = self.hang_ups.saturating_add(1);
     }
 }
+
+#[cfg(test)]
+mod tests;

@@ -8,6 +8,7 @@ use crate::sure_source::copy_front;
 use crate::{Heard, Told};
 use sqlite_items::Items;
 use std::alloc::Global;
+use std::marker::Model;
 use txs_values::{Bytes, NoMemory};
 
 /// What a system in memory is to tell.
@@ -29,56 +30,72 @@ pub(crate) struct Place {
     pub within: usize,
 }
 
-/// A script that is being told.
+/// A script that is being told, which contracts see as what is left of it.
 #[derive(Debug, Drop)]
 pub(crate) struct Playing {
-    pub script: Script,
+    script: Script,
     pub place: Place,
+}
+
+impl Model for Playing {
+    ghost use Rattle.std.specs.Prelude.{List};
+    ghost use Rattle.txs_outside.specs.declared.playing.ScriptEntry.{ScriptEntry};
+    ghost use Rattle.txs_outside.specs.Script.{rest_at};
+
+    ghost Value = { List ScriptEntry };
+
+    ghost view = { λ p. rest_at p.script p.place };
 }
 
 impl Playing {
     pub fn new(script: Script) -> Playing
-        ensures { result ≡ record { script = script; place = record { entry = 0; within = 0 } } }
+        ensures { result ≡ script }
     {
-        Playing {
-            script,
-            place: Place {
-                entry: 0,
-                within: 0,
-            },
-        }
+        let place = Place {
+            entry: 0,
+            within: 0,
+        };
+        Playing { script, place }
     }
 
-    /// What a wait answers, and the place behind that.
-    pub fn wait(&self, ends: usize, buf: &mut [u8]) -> (Told, Place)
+    /// What a wait answers, which is taken from the script.
+    pub fn wait(&mut self, ends: usize, buf: &mut [u8]) -> Told
         requires { 0 < length buf.old }
-        ensures told { IsTold ends result.0 buf.new }
-        ensures waits { result.0 ≢ Told.Nothing }
-        ensures sure { result.0 ≢ Told.Failed }
-        ensures heard { heard_of result.0 buf.new ≡ heard_first (length buf.old) (upcoming ends (rest_at self.now.script self.now.place)) }
-        ensures left { rest_at self.now.script result.1 ≡ left_behind (length buf.old) (upcoming ends (rest_at self.now.script self.now.place)) }
+        ensures told { IsTold ends result buf.new }
+        ensures waits { result ≢ Told.Nothing }
+        ensures sure { result ≢ Told.Failed }
+        ensures heard { heard_of result buf.new ≡ heard_first (length buf.old) (upcoming ends self.old) }
+        ensures left { self.new ≡ left_behind (length buf.old) (upcoming ends self.old) }
     {
         let script = self.script.as_slice();
         let place = settled(script, self.place, ends);
-        told_at(script, place, ends, buf)
+        let (told, behind) = told_at(script, place, ends, buf);
+        self.place = behind;
+        told
     }
 
-    /// What a poll answers, and the place behind that.
-    pub fn poll(&self, ends: usize, buf: &mut [u8]) -> (Told, Place)
+    /// What a poll answers, which is taken from the script, but for a `Quiet` in front.
+    pub fn poll(&mut self, ends: usize, buf: &mut [u8]) -> Told
         requires { 0 < length buf.old }
-        ensures told { IsTold ends result.0 buf.new }
-        ensures polls { result.0 ≢ Told.Quiet }
-        ensures sure { result.0 ≢ Told.Failed }
-        ensures heard { let next = upcoming ends (rest_at self.now.script self.now.place) in
-            heard_of result.0 buf.new ≡ (if is_silent next then heard.Nothing else heard_first (length buf.old) next) }
-        ensures left { let next = upcoming ends (rest_at self.now.script self.now.place) in
-            rest_at self.now.script result.1 ≡ (if is_silent next then next else left_behind (length buf.old) next) }
+        ensures told { IsTold ends result buf.new }
+        ensures polls { result ≢ Told.Quiet }
+        ensures sure { result ≢ Told.Failed }
+        ensures heard { let next = upcoming ends self.old in
+            heard_of result buf.new ≡ (if is_silent next then heard.Nothing else heard_first (length buf.old) next) }
+        ensures left { let next = upcoming ends self.old in
+            self.new ≡ (if is_silent next then next else left_behind (length buf.old) next) }
     {
         let script = self.script.as_slice();
         let place = settled(script, self.place, ends);
         match told_at(script, place, ends, buf) {
-            (Told::Quiet, _) => (Told::Nothing, place),
-            told => told,
+            (Told::Quiet, _) => {
+                self.place = place;
+                Told::Nothing
+            }
+            (told, behind) => {
+                self.place = behind;
+                told
+            }
         }
     }
 }

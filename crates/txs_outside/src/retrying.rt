@@ -39,3 +39,72 @@ pub(crate) fn flush<W: Write>(writer: &mut W) -> io::Result<()> {
     }
     Err(io::Error::from(ErrorKind::Interrupted))
 }
+
+#[cfg(test)]
+mod tests {
+    use super::*;
+    use crate::{Failed, Got, ReaderSource, Sink, Source, WriterSink};
+    use std::test::Fail;
+
+    /// Is interrupted, then gives or takes one byte, then fails.
+    #[derive(Drop)]
+    struct Flaky {
+        turn: u8,
+        flushed: u8,
+    }
+
+    impl Flaky {
+        fn new() -> Flaky {
+            Flaky {
+                turn: 0,
+                flushed: 0,
+            }
+        }
+
+        fn next(&mut self) -> io::Result<()> {
+            self.turn = self.turn.wrapping_add(1) % 3;
+            match self.turn {
+                1 => Err(io::Error::from(ErrorKind::Interrupted)),
+                2 => Ok(()),
+                _ => Err(io::Error::from(ErrorKind::Other)),
+            }
+        }
+    }
+
+    impl Read for Flaky {
+        fn read(&mut self, buf: &mut [u8]) -> io::Result<usize> {
+            self.next()?;
+            Ok(buf.len().min(1))
+        }
+    }
+
+    impl Write for Flaky {
+        fn write(&mut self, buf: &[u8]) -> io::Result<usize> {
+            self.next()?;
+            Ok(buf.len().min(1))
+        }
+
+        fn flush(&mut self) -> io::Result<()> {
+            self.flushed = 1;
+            Ok(())
+        }
+    }
+
+    #[test]
+    fn tries_again_and_fails(rt: HostRuntime) -> Result<(), Fail> {
+        let mut buf = [0u8; 4];
+        let mut source = ReaderSource::new(Flaky::new());
+        assert_eq!(rt; source.read(&mut buf), Got::Bytes { len: 1 });
+        assert_eq!(rt; source.read(&mut buf), Got::Failed);
+        assert_eq!(rt; source.read(&mut buf), Got::Bytes { len: 1 });
+        let mut source = ReaderSource::new(b"ab".as_slice());
+        assert_eq!(rt; source.read(&mut buf), Got::Bytes { len: 2 });
+        assert_eq!(rt; source.read(&mut buf), Got::End);
+        let mut flaky = Flaky::new();
+        let mut sink = WriterSink::new(&mut flaky);
+        assert_eq!(rt; sink.write(b"ab"), Ok(1));
+        assert_eq!(rt; sink.write(b"b"), Err(Failed));
+        assert_eq!(rt; flaky.flushed, 1);
+        Ok(())
+    }
+}

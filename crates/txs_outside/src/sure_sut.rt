@@ -13,11 +13,10 @@ pub struct SureSut {
 
 impl Model for SureSut {
     ghost use Rattle.txs_outside.specs.Memory.{SureSutState};
-    ghost use Rattle.txs_outside.specs.Script.{rest_at};
 
     ghost Value = { SureSutState };
 
-    ghost view = { λ s. record { script = rest_at s.playing.script s.playing.place; dialled = s.dialled } };
+    ghost view = { λ s. record { script = s.playing; dialled = s.dialled } };
 }
 
 impl SureSut {
@@ -48,15 +47,11 @@ impl Sut for SureSut {
     }
 
     fn poll(&mut self, buf: &mut [u8]) -> Told {
-        let (told, place) = self.playing.poll(self.dialled, buf);
-        self.playing.place = place;
-        told
+        self.playing.poll(self.dialled, buf)
     }
 
     fn wait(&mut self, buf: &mut [u8]) -> Told {
-        let (told, place) = self.playing.wait(self.dialled, buf);
-        self.playing.place = place;
-        told
+        self.playing.wait(self.dialled, buf)
     }
 
     fn send(&mut self, _end: u32, _bytes: &[u8]) -> Result<(), Failed> {

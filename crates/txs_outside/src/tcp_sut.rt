@@ -247,3 +247,6 @@ fn send_all<R: Clock, S: Write>(rt: &R, stream: &mut S, bytes: &[u8]) -> io::Res
 fn nap<R: Clock>(rt: &R) {
     thread::sleep(rt, Duration::from_millis(NAP_MILLIS));
 }
+
+#[cfg(test)]
+mod tests;

@@ -1,4 +1,4 @@
-use Rattle.std.proofs.Common.{◌≡◌, ◌<◌, ◌≤◌, length, drop, false, arith, ◌∙◌, ap, Some, refl, length-drop}
+use Rattle.std.proofs.Common.{◌<◌, length, arith, ◌∙◌, ap, Some, refl, length-drop}
 use Rattle.std.proofs.lemmas.Option.{slice_get_read}
 use Rattle.txs_outside.proofs.Scripts.{piece_end, piece_rest, ended_end}
 use Rattle.txs_outside.proofs.playing.told_at.Goals as goal

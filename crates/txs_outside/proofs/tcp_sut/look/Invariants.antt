@@ -1,4 +1,4 @@
-use Rattle.std.proofs.Common.{◌≡◌, ◌≢◌, ℕ, List, length}
+use Rattle.std.proofs.Common.{◌≢◌, length}
 use Rattle.txs_outside.specs.Calls.{IsTold}
 use Rattle.txs_outside.specs.declared.sut.Told.TheVariants.{Quiet, Failed}
 use Rattle.txs_outside.proofs.tcp_sut.look.Given as goal
