@@ -1,5 +1,5 @@
 -- An action of one Int on one channel is an action where the channel is of Ints.
-use Rattle.std.proofs.Common.{◌≡◌, ℕ, ℤ, ◌^◌, List, [], ◌∷◌, true, refl, sym, subst, FitsSigned}
+use Rattle.std.proofs.Common.{◌≡◌, ℕ, ℤ, ◌^◌, List, [], ◌∷◌, true, sym, subst, FitsSigned}
 use Rattle.std.specs.Int.{w128}
 use Rattle.std.specs.Int.Signed.{mag}
 use Rattle.std.proofs.lemmas.Bool.Decides.{Decides-ltb}

@@ -1,5 +1,5 @@
 -- The listed moves of a plain term are its steps.
-use Rattle.std.proofs.Common.{◌≡◌, ℕ, zero, suc, ◌+◌, ◌<◌, ℤ, Bool, true, false, cond, eqb, nat_lt, eqb-true, eq-eqb, List, [], ◌∷◌, ◌++◌, refl, sym, ap, ◌∙◌, subst, arith, inl, inr, append-nil}
+use Rattle.std.proofs.Common.{◌≡◌, ℕ, ℤ, Bool, true, false, cond, eqb, eqb-true, eq-eqb, List, [], ◌∷◌, ◌++◌, refl, sym, ap, ◌∙◌, subst, arith, inl, inr, append-nil}
 use Rattle.std.proofs.lemmas.Bool.Decides.{Decides-ltb}
 use Rattle.txs_values.specs.Value.{Value, num, fits}
 use Rattle.txs_terms.specs.Expr.{Expr, val, slot}
@@ -8,7 +8,7 @@ use Rattle.txs_terms.specs.Action.{Part, Action, act, channels, values_on, value
 use Rattle.txs_terms.specs.Term.{Position, give, take, Offer, Term, stop, prefix, fill}
 use Rattle.txs_terms.specs.Rules.{In, Model, Meets, Step, offers}
 use Rattle.txs_terms.specs.Sets.{IsPlainExpr, IsPlainPosition, ArePlainOffers, IsPlain}
-use Rattle.txs_terms.specs.Moves.{is_number, admits, met_by, offers_met, moves_of}
+use Rattle.txs_terms.specs.Moves.{is_number, met_by, offers_met, moves_of}
 use Rattle.txs_terms.proofs.Prefixes.{value_gives, given_value, number_is, same_number, prefix_does, stop_does}
 
 same_head : {x y : ℕ} {xs ys : List ℕ} → x ∷ xs ≡ y ∷ ys → x ≡ y

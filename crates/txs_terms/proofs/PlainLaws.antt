@@ -1,12 +1,12 @@
 -- Plain terms stay plain.
-use Rattle.std.proofs.Common.{◌≡◌, ℕ, zero, suc, ◌+◌, ◌<◌, ℤ, Bool, true, false, cond, eqb, nat_lt, List, [], ◌∷◌, ◌++◌, map, refl, sym, ap, arith, inl, inr}
+use Rattle.std.proofs.Common.{◌≡◌, ℕ, zero, suc, ◌+◌, ℤ, Bool, true, false, cond, eqb, nat_lt, List, [], ◌∷◌, ◌++◌, map, arith}
 use Rattle.std.proofs.lemmas.Bool.Decides.{Decides-ltb}
 use Rattle.txs_values.specs.Value.{Value, num, fits}
 use Rattle.txs_terms.specs.Expr.{Expr, val, slot, put, filled}
-use Rattle.txs_terms.specs.Action.{Part, Action}
+use Rattle.txs_terms.specs.Action.{Action}
 use Rattle.txs_terms.specs.Term.{Position, give, take, Offer, Term, stop, prefix, put_position, put_offer, fill}
 use Rattle.txs_terms.specs.Sets.{IsPlainExpr, IsPlainPosition, ArePlainOffers, IsPlain, ArePlain, IsOneInt, IsIntAction}
-use Rattle.txs_terms.specs.Moves.{admits, met_by, offers_met, moves_of, all_moves, speaks, quiet_ones}
+use Rattle.txs_terms.specs.Moves.{admits, met_by, moves_of, all_moves, speaks, quiet_ones}
 use Rattle.txs_terms.proofs.MoveLaws.{offer_on}
 
 below : (i n : ℕ) → nat_lt (suc i) (n + 1) ≡ true → nat_lt i n ≡ true

@@ -1,16 +1,15 @@
 -- The steps of plain terms.
-use Rattle.std.proofs.Common.{◌≡◌, ℕ, zero, suc, ◌+◌, ◌<◌, ℤ, pos, Bool, true, false, cond, eqb, ltb, nat_lt, eqb-true, eq-eqb, List, [], ◌∷◌, ◌++◌, map, refl, sym, ap, ◌∙◌, subst, arith, inl, inr}
-use Rattle.std.specs.Ordering.{int_eq}
-use Rattle.std.proofs.lemmas.Bool.Decides.{Decides-int_eq, Decides-ltb}
-use Rattle.txs_values.specs.Value.{Value, num, bool, text, cons, fits}
-use Rattle.txs_terms.specs.Expr.{Expr, val, slot, put, filled}
+use Rattle.std.proofs.Common.{◌≡◌, ℕ, ℤ, true, List, [], map, refl, ap, subst}
+use Rattle.std.proofs.lemmas.Bool.Decides.{Decides-int_eq}
+use Rattle.txs_values.specs.Value.{Value, num}
+use Rattle.txs_terms.specs.Expr.{Expr, val, filled}
 use Rattle.txs_terms.specs.Eval.{Defs, height_limit, node_limit, eval, Gives, got}
-use Rattle.txs_terms.specs.Action.{Part, Action, Label, act, inner, ends, channels, values_on, values_over, Scope, IsAction}
-use Rattle.txs_terms.specs.Term.{Position, give, take, Offer, Term, stop, prefix, put_position, put_offer, put_term, fill}
-use Rattle.txs_terms.specs.Rules.{In, Model, Meets, MeetAll, offered, in_order, Step, offers}
+use Rattle.txs_terms.specs.Action.{Action, Label, act, inner, ends, channels, values_over, Scope}
+use Rattle.txs_terms.specs.Term.{Offer, Term, stop, prefix, put_offer, fill}
+use Rattle.txs_terms.specs.Rules.{Model, MeetAll, offered, in_order, Step, offers}
 use Rattle.txs_terms.specs.After.{Inners, here, onward}
-use Rattle.txs_terms.specs.Sets.{IsPlainExpr, IsPlainPosition, ArePlainOffers, IsPlain, ArePlain, IsOneInt, IsIntAction}
-use Rattle.txs_terms.specs.Moves.{is_number, admits, met_by, offers_met, moves_of}
+use Rattle.txs_terms.specs.Sets.{IsPlain}
+use Rattle.txs_terms.specs.Moves.{is_number}
 
 -- ---- values
 

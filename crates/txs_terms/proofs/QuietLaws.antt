@@ -1,13 +1,12 @@
 -- A plain term is quiescent where it offers nothing on the one channel of outputs.
-use Rattle.std.proofs.Common.{◌≡◌, ℕ, ℤ, pos, Bool, true, false, cond, eqb, eqb-true, eq-eqb, List, [], ◌∷◌, refl, sym, ap, ◌∙◌, subst, inl, inr}
-use Rattle.txs_values.specs.Value.{Value, num, fits}
-use Rattle.txs_terms.specs.Expr.{val}
+use Rattle.std.proofs.Common.{◌≡◌, ℕ, ℤ, pos, Bool, true, false, eqb, eq-eqb, List, [], ◌∷◌, refl, sym, ◌∙◌, subst, inl, inr}
+use Rattle.txs_values.specs.Value.{num, fits}
 use Rattle.txs_terms.specs.Action.{Action, act, Channels, channels, Scope}
-use Rattle.txs_terms.specs.Term.{Position, give, take, Offer, Term, stop, prefix, fill}
+use Rattle.txs_terms.specs.Term.{Position, give, take, Term, stop, prefix, fill}
 use Rattle.txs_terms.specs.Rules.{In, Model, Step}
 use Rattle.txs_terms.specs.After.{Sync, IsQuiescent}
 use Rattle.txs_terms.specs.Sets.{IsInt, IsPlainPosition, ArePlainOffers, IsPlain}
-use Rattle.txs_terms.specs.Moves.{is_number, admits, met_by, offers_met, moves_of, speaks}
+use Rattle.txs_terms.specs.Moves.{is_number, admits, offers_met, speaks}
 use Rattle.txs_terms.proofs.Actions.{int_action}
 use Rattle.txs_terms.proofs.Prefixes.{same_number, prefix_does, stop_does, plain_still}
 use Rattle.txs_terms.proofs.MoveLaws.{plain_number, offer_on, offer_is}

@@ -2,10 +2,10 @@
 use Rattle.std.proofs.Common.{◌≡◌, ◌<◌, ◌⊎◌, ◌↔◌, inl, inr, ℕ, Bool, true, false, cond, List, [], ◌∷◌, ◌++◌, length, refl, sym, ◌∙◌, ap, subst, arith}
 use Rattle.std.proofs.lemmas.List.{length-map}
 use Rattle.txs_terms.specs.declared.term.Term as rust
-use Rattle.txs_terms.specs.Action.{Action, act, Scope, IsAction}
+use Rattle.txs_terms.specs.Action.{Action, Scope, IsAction}
 use Rattle.txs_terms.specs.Term.{Term}
-use Rattle.txs_terms.specs.Rules.{In, Model, Step}
-use Rattle.txs_terms.specs.After.{Sync, Observable, acted, quiescence, here, IsQuiescent, After, Out}
+use Rattle.txs_terms.specs.Rules.{In, Model}
+use Rattle.txs_terms.specs.After.{Sync, Observable, acted, quiescence, here, After, Out}
 use Rattle.txs_terms.specs.Sets.{IsAfter, CanDo, IsInt, IsPlain, ArePlain}
 use Rattle.txs_terms.specs.Moves.{moves_of, all_moves, speaks, quiet_ones}
 use Rattle.txs_terms.specs.View.{term_of, terms_of}
