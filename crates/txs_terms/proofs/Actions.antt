@@ -14,5 +14,6 @@ in_range_fits v h = (Decides-ltb (mag v) (2 ^ 127)).1 h.sfits
 int_types : (table : Table) (ts : List Ty) (v : ℤ) → ts ≡ whole ∷ [] → fits v ≡ true → HaveTypes table (num v ∷ []) ts
 int_types table ts v e h = subst (λ us. HaveTypes table (num v ∷ []) us) (sym e) (h, tt)
 
-pub int_action : (table : Table) (scope : Scope) (c : ℕ) (v : ℤ) → fits v ≡ true → IsInt scope c → IsAction table scope (record { channel = c; values = num v ∷ [] } ∷ [])
+pub int_action : (table : Table) (scope : Scope) (c : ℕ) (v : ℤ) → fits v ≡ true → IsInt scope c
+    → IsAction table scope (record { channel = c; values = num v ∷ [] } ∷ [])
 int_action table scope c v h e = record { typed = (int_types table (types_on scope c) v e h, tt); ascending = (tt, tt) }

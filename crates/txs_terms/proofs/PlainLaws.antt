@@ -18,7 +18,8 @@ expr_filled n x (slot zero) f h = f
 expr_filled n x (slot (suc i)) f h = below i n h
 expr_filled n x _ f h = absurd h
 
-position_filled : (n : ℕ) (x : ℤ) (p : Position) → fits x ≡ true → IsPlainPosition (n + 1) p → IsPlainPosition n (put_position (filled (num x ∷ [])) p)
+position_filled : (n : ℕ) (x : ℤ) (p : Position) → fits x ≡ true → IsPlainPosition (n + 1) p
+    → IsPlainPosition n (put_position (filled (num x ∷ [])) p)
 position_filled n x (give e) f h = expr_filled n x e f h
 position_filled n x (take y) f h = tt
 
@@ -28,7 +29,8 @@ offer_filled n x c [] f h = absurd h
 offer_filled n x c (p ∷ []) f h = position_filled n x p f h
 offer_filled n x c (p ∷ p2 ∷ ps) f h = absurd h
 
-offers_filled : (n : ℕ) (x : ℤ) (os : List Offer) → fits x ≡ true → ArePlainOffers (n + 1) os → ArePlainOffers n (map (put_offer (filled (num x ∷ []))) os)
+offers_filled : (n : ℕ) (x : ℤ) (os : List Offer) → fits x ≡ true → ArePlainOffers (n + 1) os
+    → ArePlainOffers n (map (put_offer (filled (num x ∷ []))) os)
 offers_filled n x [] f h = absurd h
 offers_filled n x (o ∷ []) f h = offer_filled n x o.channel o.positions f h
 offers_filled n x (o ∷ o2 ∷ os) f h = absurd h

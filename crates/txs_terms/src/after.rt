@@ -45,7 +45,8 @@ fn met_by(
     values: &[Value],
     then: &Tree,
 ) -> Result<Items<Term>, NoMemory>
-    ensures { IfOk result (λ ts. terms_of ts ≡ met_by (map position_of positions.now) (values_of values.now) (tree_of then.now)) }
+    ensures { IfOk result (λ ts. terms_of ts
+        ≡ met_by (map position_of positions.now) (values_of values.now) (tree_of then.now)) }
 {
     let mut found = Items::new(alloc);
     if let [position] = positions {
@@ -65,7 +66,8 @@ fn offers_met(
     parts: &[Part],
     then: &Tree,
 ) -> Result<Items<Term>, NoMemory>
-    ensures { IfOk result (λ ts. terms_of ts ≡ offers_met (offers_of offers.now) (map part_of parts.now) (tree_of then.now)) }
+    ensures { IfOk result (λ ts. terms_of ts
+        ≡ offers_met (offers_of offers.now) (map part_of parts.now) (tree_of then.now)) }
 {
     match offers {
         [] => Ok(Items::new(alloc)),
@@ -105,7 +107,8 @@ fn moves(alloc: Global, term: &Term, action: &Action) -> Result<Items<Term>, NoM
 }
 
 fn all_moves(alloc: Global, set: &[Term], action: &Action) -> Result<Items<Term>, NoMemory>
-    ensures { IfOk result (λ ts. terms_of ts ≡ all_moves (terms_of set.now) (action_of action.now)) }
+    ensures { IfOk result (λ ts. terms_of ts
+        ≡ all_moves (terms_of set.now) (action_of action.now)) }
 {
     let mut found = Items::new(alloc);
     for term in set {
@@ -157,7 +160,8 @@ fn alone(alloc: Global, term: &Term) -> Result<Items<Term>, NoMemory>
 pub fn first(alloc: Global, term: &Term) -> Result<Items<Term>, NoMemory>
     requires { IsPlain 0 (term_of term.now) }
     ensures plain { IfOk result (λ ts. ArePlain (terms_of ts)) }
-    ensures after { IfOk result (λ ts. (model : Model) (scope : Scope) (sync : Sync) → IsAfter model scope sync (term_of term.now) [] (terms_of ts)) }
+    ensures after { IfOk result (λ ts. (model : Model) (scope : Scope) (sync : Sync)
+        → IsAfter model scope sync (term_of term.now) [] (terms_of ts)) }
 {
     let found = alone(alloc, term)?;
     Ok(found)
@@ -166,12 +170,15 @@ pub fn first(alloc: Global, term: &Term) -> Result<Items<Term>, NoMemory>
 /// The terms after one more action.
 pub fn after_action(alloc: Global, set: &[Term], action: &Action) -> Result<Items<Term>, NoMemory>
     requires { ArePlain (terms_of set.now) }
+    // On a channel of another type a value may come that no plain term holds.
     ensures plain { IfOk result (λ ts. IsIntAction (action_of action.now) → ArePlain (terms_of ts)) }
-    ensures after { IfOk result (λ ts. (model : Model) (scope : Scope) (sync : Sync) (b : Behaviour) (trace : List Observable)
+    ensures after { IfOk result (λ ts. (model : Model) (scope : Scope) (sync : Sync)
+        (b : Behaviour) (trace : List Observable)
         → IsAction model.defs.table scope (action_of action.now)
         → IsAfter model scope sync b trace (terms_of set.now)
         → IsAfter model scope sync b (acted (action_of action.now) ∷ trace) (terms_of ts)) }
-    ensures moves { IfOk result (λ ts. (model : Model) (scope : Scope) (sync : Sync) (b : Behaviour) (trace : List Observable)
+    ensures moves { IfOk result (λ ts. (model : Model) (scope : Scope) (sync : Sync)
+        (b : Behaviour) (trace : List Observable)
         → IsAction model.defs.table scope (action_of action.now)
         → IsAfter model scope sync b trace (terms_of set.now)
         → (0 < length ts) ↔ CanDo model scope sync b trace (action_of action.now)) }
@@ -184,11 +191,13 @@ pub fn after_action(alloc: Global, set: &[Term], action: &Action) -> Result<Item
 pub fn after_quiescence(alloc: Global, set: &[Term], out: u32) -> Result<Items<Term>, NoMemory>
     requires { ArePlain (terms_of set.now) }
     ensures plain { IfOk result (λ ts. ArePlain (terms_of ts)) }
-    ensures after { IfOk result (λ ts. (model : Model) (scope : Scope) (sync : Sync) (b : Behaviour) (trace : List Observable)
+    ensures after { IfOk result (λ ts. (model : Model) (scope : Scope) (sync : Sync)
+        (b : Behaviour) (trace : List Observable)
         → IsInt scope out → sync.outs ≡ (out ∷ []) ∷ []
         → IsAfter model scope sync b trace (terms_of set.now)
         → IsAfter model scope sync b (quiescence ∷ trace) (terms_of ts)) }
-    ensures quiet { IfOk result (λ ts. (model : Model) (scope : Scope) (sync : Sync) (b : Behaviour) (trace : List Observable)
+    ensures quiet { IfOk result (λ ts. (model : Model) (scope : Scope) (sync : Sync)
+        (b : Behaviour) (trace : List Observable)
         → IsInt scope out → sync.outs ≡ (out ∷ []) ∷ []
         → IsAfter model scope sync b trace (terms_of set.now)
         → (0 < length ts) ↔ Out model scope sync b trace quiescence) }
@@ -224,7 +233,8 @@ mod tests {
         position: Position,
         then: Term,
     ) -> Result<Term, NoMemory>
-        ensures { IfOk result (λ t. term_of t ≡ prefix (record { channel = channel; positions = position_of position ∷ [] } ∷ []) [] (term_of then)) }
+        ensures { IfOk result (λ t. term_of t
+            ≡ prefix (record { channel = channel; positions = position_of position ∷ [] } ∷ []) [] (term_of then)) }
     {
         let mut positions = Items::new(alloc);
         positions.push(position)?;
