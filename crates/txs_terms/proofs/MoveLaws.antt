@@ -1,5 +1,5 @@
 -- The listed moves of a plain term are its steps.
-use Rattle.std.proofs.Common.{◌≡◌, ℕ, zero, suc, ◌+◌, ◌<◌, ℤ, Bool, true, false, cond, eqb, nat_lt, eqb-true, eq-eqb, List, [], ◌∷◌, ◌++◌, refl, sym, ap, ◌∙◌, subst, arith, inl, inr, append-nil}
+use Rattle.std.proofs.Common.{◌≡◌, ℕ, ℤ, Bool, true, false, cond, eqb, eqb-true, eq-eqb, List, [], ◌∷◌, ◌++◌, refl, sym, ap, ◌∙◌, subst, arith, inl, inr, append-nil}
 use Rattle.std.proofs.lemmas.Bool.Decides.{Decides-ltb}
 use Rattle.txs_values.specs.Value.{Value, num, fits}
 use Rattle.txs_terms.specs.Expr.{Expr, val, slot}
@@ -8,7 +8,7 @@ use Rattle.txs_terms.specs.Action.{Part, Action, act, channels, values_on, value
 use Rattle.txs_terms.specs.Term.{Position, give, take, Offer, Term, stop, prefix, fill}
 use Rattle.txs_terms.specs.Rules.{In, Model, Meets, Step, offers}
 use Rattle.txs_terms.specs.Sets.{IsPlainExpr, IsPlainPosition, ArePlainOffers, IsPlain}
-use Rattle.txs_terms.specs.Moves.{is_number, admits, met_by, offers_met, moves_of}
+use Rattle.txs_terms.specs.Moves.{is_number, met_by, offers_met, moves_of}
 use Rattle.txs_terms.proofs.Prefixes.{value_gives, given_value, number_is, same_number, prefix_does, stop_does}
 
 same_head : {x y : ℕ} {xs ys : List ℕ} → x ∷ xs ≡ y ∷ ys → x ≡ y
@@ -30,7 +30,8 @@ offer_on c ps = record { channel = c; positions = ps }
 
 -- ---- each step is listed
 
-met_in : (defs : Defs) (p : Position) (vs : List Value) (t t' : Term) → IsPlainPosition 0 p → Meets defs (p ∷ []) vs → t' ≡ fill vs t → In t' (met_by (p ∷ []) vs t)
+met_in : (defs : Defs) (p : Position) (vs : List Value) (t t' : Term) → IsPlainPosition 0 p → Meets defs (p ∷ []) vs
+    → t' ≡ fill vs t → In t' (met_by (p ∷ []) vs t)
 met_in defs p [] t t' h m e = absurd m
 met_in defs (take x) (v ∷ []) t t' h m e = inl e
 met_in defs (take x) (v ∷ w ∷ vs) t t' h m e = absurd m
@@ -41,7 +42,8 @@ met_in defs (give d) (v ∷ []) t t' h m e =
     rw is (inl e)
 met_in defs (give d) (v ∷ w ∷ vs) t t' h m e = absurd m.1
 
-offer_in : (defs : Defs) (c : ℕ) (ps : List Position) (a : Action) (t t' : Term) → ArePlainOffers 0 (offer_on c ps ∷ []) → channels a ≡ c ∷ []
+offer_in : (defs : Defs) (c : ℕ) (ps : List Position) (a : Action) (t t' : Term) → ArePlainOffers 0 (offer_on c ps ∷ [])
+    → channels a ≡ c ∷ []
     → Meets defs ps (values_on a c) → t' ≡ fill (values_over a (c ∷ [])) t → In t' (offers_met (offer_on c ps ∷ []) a t)
 offer_in defs c [] a t t' h e m q = absurd h
 offer_in defs c (p ∷ p2 ∷ ps) a t t' h e m q = absurd h
@@ -52,7 +54,8 @@ offer_in defs c (p ∷ []) (r ∷ []) t t' h e m q =
     rw (eq-eqb c r.channel (sym k))
     (met_in defs p r.values t t' h (subst (λ vs. Meets defs (p ∷ []) vs) (values_at r c k) m) (q ∙ ap (λ vs. fill vs t) (over_one r c k)))
 
-pub step_in : (model : Model) (scope : Scope) (s : Term) (a : Action) (t' : Term) → IsPlain 0 s → Step model scope s (act a) t' → In t' (moves_of s a)
+pub step_in : (model : Model) (scope : Scope) (s : Term) (a : Action) (t' : Term) → IsPlain 0 s → Step model scope s (act a) t'
+    → In t' (moves_of s a)
 step_in model scope stop a t' h s = absurd (stop_does model scope (act a) t' s)
 step_in model scope (prefix (o ∷ []) [] t) a t' h s =
     let d = prefix_does model scope (o ∷ []) [] t (act a) t' s in
@@ -63,19 +66,22 @@ step_in model scope _ a t' h s = absurd h
 
 -- ---- what is listed is a step
 
-number_met : (defs : Defs) (e : Expr) (v : Value) (t t' : Term) (x : Bool) → is_number e v ≡ x → In t' (cond x (fill (v ∷ []) t ∷ []) []) → Meets defs (give e ∷ []) (v ∷ []) × (t' ≡ fill (v ∷ []) t)
+number_met : (defs : Defs) (e : Expr) (v : Value) (t t' : Term) (x : Bool) → is_number e v ≡ x
+    → In t' (cond x (fill (v ∷ []) t ∷ []) []) → Meets defs (give e ∷ []) (v ∷ []) × (t' ≡ fill (v ∷ []) t)
 number_met defs e v t t' true k (inl q) = ((subst (λ d. Gives defs d v) (sym (number_is e v k)) (value_gives defs v), tt), q)
 number_met defs e v t t' true k (inr h) = absurd h
 number_met defs e v t t' false k h = absurd h
 
-met_is : (defs : Defs) (p : Position) (vs : List Value) (t t' : Term) → In t' (met_by (p ∷ []) vs t) → Meets defs (p ∷ []) vs × (t' ≡ fill vs t)
+met_is : (defs : Defs) (p : Position) (vs : List Value) (t t' : Term) → In t' (met_by (p ∷ []) vs t)
+    → Meets defs (p ∷ []) vs × (t' ≡ fill vs t)
 met_is defs p [] t t' h = absurd h
 met_is defs p (v ∷ w ∷ vs) t t' h = absurd h
 met_is defs (take x) (v ∷ []) t t' (inl e) = (tt, e)
 met_is defs (take x) (v ∷ []) t t' (inr h) = absurd h
 met_is defs (give e) (v ∷ []) t t' h = number_met defs e v t t' (is_number e v) refl h
 
-offer_by : (model : Model) (scope : Scope) (c : ℕ) (ps : List Position) (r : Part) (t t' : Term) (x : Bool) → IsAction model.defs.table scope (r ∷ []) → eqb c r.channel ≡ x
+offer_by : (model : Model) (scope : Scope) (c : ℕ) (ps : List Position) (r : Part) (t t' : Term) (x : Bool)
+    → IsAction model.defs.table scope (r ∷ []) → eqb c r.channel ≡ x
     → In t' (cond x (met_by ps r.values t) []) → Step model scope (prefix (offer_on c ps ∷ []) [] t) (act (r ∷ [])) t'
 offer_by model scope c [] r t t' true i k h = absurd h
 offer_by model scope c (p ∷ p2 ∷ ps) r t t' true i k h = absurd h
@@ -87,13 +93,15 @@ offer_by model scope c (p ∷ []) r t t' true i k h =
     (offers (r ∷ []) (ap (λ d. d ∷ []) e) i (subst (λ vs. Meets model.defs (p ∷ []) vs) (sym (values_at r c e)) m.0, tt) tt)
 offer_by model scope c ps r t t' false i k h = absurd h
 
-pub offer_is : (model : Model) (scope : Scope) (c : ℕ) (ps : List Position) (a : Action) (t t' : Term) → IsAction model.defs.table scope a
+pub offer_is : (model : Model) (scope : Scope) (c : ℕ) (ps : List Position) (a : Action) (t t' : Term)
+    → IsAction model.defs.table scope a
     → In t' (offers_met (offer_on c ps ∷ []) a t) → Step model scope (prefix (offer_on c ps ∷ []) [] t) (act a) t'
 offer_is model scope c ps [] t t' i h = absurd h
 offer_is model scope c ps (r ∷ r2 ∷ rs) t t' i h = absurd h
 offer_is model scope c ps (r ∷ []) t t' i h = offer_by model scope c ps r t t' (eqb c r.channel) i refl h
 
-pub step_is : (model : Model) (scope : Scope) (s : Term) (a : Action) (t' : Term) → IsPlain 0 s → IsAction model.defs.table scope a → In t' (moves_of s a) → Step model scope s (act a) t'
+pub step_is : (model : Model) (scope : Scope) (s : Term) (a : Action) (t' : Term) → IsPlain 0 s
+    → IsAction model.defs.table scope a → In t' (moves_of s a) → Step model scope s (act a) t'
 step_is model scope stop a t' p i h = absurd h
 step_is model scope (prefix (o ∷ []) [] t) a t' p i h = offer_is model scope o.channel o.positions a t t' i h
 step_is model scope (prefix [] [] t) a t' p i h = absurd p.0

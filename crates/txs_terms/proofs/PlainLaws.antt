@@ -1,12 +1,12 @@
 -- Plain terms stay plain.
-use Rattle.std.proofs.Common.{◌≡◌, ℕ, zero, suc, ◌+◌, ◌<◌, ℤ, Bool, true, false, cond, eqb, nat_lt, List, [], ◌∷◌, ◌++◌, map, refl, sym, ap, arith, inl, inr}
+use Rattle.std.proofs.Common.{◌≡◌, ℕ, zero, suc, ◌+◌, ℤ, Bool, true, false, cond, eqb, nat_lt, List, [], ◌∷◌, ◌++◌, map, arith}
 use Rattle.std.proofs.lemmas.Bool.Decides.{Decides-ltb}
 use Rattle.txs_values.specs.Value.{Value, num, fits}
 use Rattle.txs_terms.specs.Expr.{Expr, val, slot, put, filled}
-use Rattle.txs_terms.specs.Action.{Part, Action}
+use Rattle.txs_terms.specs.Action.{Action}
 use Rattle.txs_terms.specs.Term.{Position, give, take, Offer, Term, stop, prefix, put_position, put_offer, fill}
 use Rattle.txs_terms.specs.Sets.{IsPlainExpr, IsPlainPosition, ArePlainOffers, IsPlain, ArePlain, IsOneInt, IsIntAction}
-use Rattle.txs_terms.specs.Moves.{admits, met_by, offers_met, moves_of, all_moves, speaks, quiet_ones}
+use Rattle.txs_terms.specs.Moves.{admits, met_by, moves_of, all_moves, speaks, quiet_ones}
 use Rattle.txs_terms.proofs.MoveLaws.{offer_on}
 
 below : (i n : ℕ) → nat_lt (suc i) (n + 1) ≡ true → nat_lt i n ≡ true
@@ -18,7 +18,8 @@ expr_filled n x (slot zero) f h = f
 expr_filled n x (slot (suc i)) f h = below i n h
 expr_filled n x _ f h = absurd h
 
-position_filled : (n : ℕ) (x : ℤ) (p : Position) → fits x ≡ true → IsPlainPosition (n + 1) p → IsPlainPosition n (put_position (filled (num x ∷ [])) p)
+position_filled : (n : ℕ) (x : ℤ) (p : Position) → fits x ≡ true → IsPlainPosition (n + 1) p
+    → IsPlainPosition n (put_position (filled (num x ∷ [])) p)
 position_filled n x (give e) f h = expr_filled n x e f h
 position_filled n x (take y) f h = tt
 
@@ -28,7 +29,8 @@ offer_filled n x c [] f h = absurd h
 offer_filled n x c (p ∷ []) f h = position_filled n x p f h
 offer_filled n x c (p ∷ p2 ∷ ps) f h = absurd h
 
-offers_filled : (n : ℕ) (x : ℤ) (os : List Offer) → fits x ≡ true → ArePlainOffers (n + 1) os → ArePlainOffers n (map (put_offer (filled (num x ∷ []))) os)
+offers_filled : (n : ℕ) (x : ℤ) (os : List Offer) → fits x ≡ true → ArePlainOffers (n + 1) os
+    → ArePlainOffers n (map (put_offer (filled (num x ∷ []))) os)
 offers_filled n x [] f h = absurd h
 offers_filled n x (o ∷ []) f h = offer_filled n x o.channel o.positions f h
 offers_filled n x (o ∷ o2 ∷ os) f h = absurd h

@@ -1,16 +1,15 @@
 -- The steps of plain terms.
-use Rattle.std.proofs.Common.{◌≡◌, ℕ, zero, suc, ◌+◌, ◌<◌, ℤ, pos, Bool, true, false, cond, eqb, ltb, nat_lt, eqb-true, eq-eqb, List, [], ◌∷◌, ◌++◌, map, refl, sym, ap, ◌∙◌, subst, arith, inl, inr}
-use Rattle.std.specs.Ordering.{int_eq}
-use Rattle.std.proofs.lemmas.Bool.Decides.{Decides-int_eq, Decides-ltb}
-use Rattle.txs_values.specs.Value.{Value, num, bool, text, cons, fits}
-use Rattle.txs_terms.specs.Expr.{Expr, val, slot, put, filled}
+use Rattle.std.proofs.Common.{◌≡◌, ℕ, ℤ, true, List, [], map, refl, ap, subst}
+use Rattle.std.proofs.lemmas.Bool.Decides.{Decides-int_eq}
+use Rattle.txs_values.specs.Value.{Value, num}
+use Rattle.txs_terms.specs.Expr.{Expr, val, filled}
 use Rattle.txs_terms.specs.Eval.{Defs, height_limit, node_limit, eval, Gives, got}
-use Rattle.txs_terms.specs.Action.{Part, Action, Label, act, inner, ends, channels, values_on, values_over, Scope, IsAction}
-use Rattle.txs_terms.specs.Term.{Position, give, take, Offer, Term, stop, prefix, put_position, put_offer, put_term, fill}
-use Rattle.txs_terms.specs.Rules.{In, Model, Meets, MeetAll, offered, in_order, Step, offers}
+use Rattle.txs_terms.specs.Action.{Action, Label, act, inner, ends, channels, values_over, Scope}
+use Rattle.txs_terms.specs.Term.{Offer, Term, stop, prefix, put_offer, fill}
+use Rattle.txs_terms.specs.Rules.{Model, MeetAll, offered, in_order, Step, offers}
 use Rattle.txs_terms.specs.After.{Inners, here, onward}
-use Rattle.txs_terms.specs.Sets.{IsPlainExpr, IsPlainPosition, ArePlainOffers, IsPlain, ArePlain, IsOneInt, IsIntAction}
-use Rattle.txs_terms.specs.Moves.{is_number, admits, met_by, offers_met, moves_of}
+use Rattle.txs_terms.specs.Sets.{IsPlain}
+use Rattle.txs_terms.specs.Moves.{is_number}
 
 -- ---- values
 
@@ -38,19 +37,22 @@ Does model os t (act a) t' = (channels a ≡ in_order (offered os)) × MeetAll m
 Does model os t inner t' = ⊥
 Does model os t (ends vs) t' = ⊥
 
-pub prefix_does : (model : Model) (scope : Scope) (os : List Offer) (gs : List Expr) (t : Term) (l : Label) (t' : Term) → Step model scope (prefix os gs t) l t' → Does model os t l t'
+pub prefix_does : (model : Model) (scope : Scope) (os : List Offer) (gs : List Expr) (t : Term) (l : Label) (t' : Term)
+    → Step model scope (prefix os gs t) l t' → Does model os t l t'
 prefix_does model scope os gs t l t' (offers a e i m h) = (e, m, refl)
 
 pub stop_does : (model : Model) (scope : Scope) (l : Label) (t' : Term) → Step model scope stop l t' → ⊥
 stop_does model scope l t' s = elim s [ ]
 
 -- a plain term has no internal step, whatever is put in
-pub still : (model : Model) (scope : Scope) (n : ℕ) (vs : List Value) (t t' : Term) → IsPlain n t → Step model scope (fill vs t) inner t' → ⊥
+pub still : (model : Model) (scope : Scope) (n : ℕ) (vs : List Value) (t t' : Term) → IsPlain n t
+    → Step model scope (fill vs t) inner t' → ⊥
 still model scope n vs stop t' h s = stop_does model scope inner t' s
 still model scope n vs (prefix os [] t) t' h s = prefix_does model scope (map (put_offer (filled vs)) os) [] (fill vs t) inner t' s
 still model scope n vs _ t' h s = absurd h
 
-pub stays : (model : Model) (scope : Scope) (s t : Term) → ((u : Term) → Step model scope s inner u → ⊥) → Inners model scope s t → t ≡ s
+pub stays : (model : Model) (scope : Scope) (s t : Term) → ((u : Term) → Step model scope s inner u → ⊥)
+    → Inners model scope s t → t ≡ s
 stays model scope s t n here = refl
 stays model scope s t n (onward x r) = absurd (n _ x)
 
@@ -60,7 +62,8 @@ plain_still model scope (prefix os [] t) t' h s = prefix_does model scope os [] 
 plain_still model scope _ t' h s = absurd h
 
 -- nor has a term to which an action leads
-pub moved_still : (model : Model) (scope : Scope) (s : Term) (a : Action) (t u : Term) → IsPlain 0 s → Step model scope s (act a) t → Step model scope t inner u → ⊥
+pub moved_still : (model : Model) (scope : Scope) (s : Term) (a : Action) (t u : Term) → IsPlain 0 s
+    → Step model scope s (act a) t → Step model scope t inner u → ⊥
 moved_still model scope stop a t u h s x = stop_does model scope (act a) t s
 moved_still model scope (prefix os [] b) a t u h s x =
     let d = prefix_does model scope os [] b (act a) t s in

@@ -1,13 +1,12 @@
 -- A plain term is quiescent where it offers nothing on the one channel of outputs.
-use Rattle.std.proofs.Common.{◌≡◌, ℕ, ℤ, pos, Bool, true, false, cond, eqb, eqb-true, eq-eqb, List, [], ◌∷◌, refl, sym, ap, ◌∙◌, subst, inl, inr}
-use Rattle.txs_values.specs.Value.{Value, num, fits}
-use Rattle.txs_terms.specs.Expr.{val}
+use Rattle.std.proofs.Common.{◌≡◌, ℕ, ℤ, pos, Bool, true, false, eqb, eq-eqb, List, [], ◌∷◌, refl, sym, ◌∙◌, subst, inl, inr}
+use Rattle.txs_values.specs.Value.{num, fits}
 use Rattle.txs_terms.specs.Action.{Action, act, Channels, channels, Scope}
-use Rattle.txs_terms.specs.Term.{Position, give, take, Offer, Term, stop, prefix, fill}
+use Rattle.txs_terms.specs.Term.{Position, give, take, Term, stop, prefix, fill}
 use Rattle.txs_terms.specs.Rules.{In, Model, Step}
 use Rattle.txs_terms.specs.After.{Sync, IsQuiescent}
 use Rattle.txs_terms.specs.Sets.{IsInt, IsPlainPosition, ArePlainOffers, IsPlain}
-use Rattle.txs_terms.specs.Moves.{is_number, admits, met_by, offers_met, moves_of, speaks}
+use Rattle.txs_terms.specs.Moves.{is_number, admits, offers_met, speaks}
 use Rattle.txs_terms.proofs.Actions.{int_action}
 use Rattle.txs_terms.proofs.Prefixes.{same_number, prefix_does, stop_does, plain_still}
 use Rattle.txs_terms.proofs.MoveLaws.{plain_number, offer_on, offer_is}
@@ -26,7 +25,8 @@ only_one cs ds (s ∷ t ∷ sets) e h = cc
 silent_by : (c d out : ℕ) → eqb c out ≡ false → d ≡ c → d ≡ out → ⊥
 silent_by c d out h e k = let t : eqb c out ≡ true = eq-eqb c out (sym e ∙ k) in let b : true ≡ false = sym t ∙ h in absurd (cc)
 
-silent : (model : Model) (scope : Scope) (out : ℕ) (s : Term) (a : Action) (t' : Term) → IsPlain 0 s → speaks out s ≡ false → channels a ≡ out ∷ []
+silent : (model : Model) (scope : Scope) (out : ℕ) (s : Term) (a : Action) (t' : Term) → IsPlain 0 s → speaks out s ≡ false
+    → channels a ≡ out ∷ []
     → Step model scope s (act a) t' → ⊥
 silent model scope out stop a t' p h e x = stop_does model scope (act a) t' x
 silent model scope out (prefix (o ∷ []) [] t) a t' p h e x =
@@ -37,7 +37,8 @@ silent model scope out (prefix [] [] t) a t' p h e x = absurd p.0
 silent model scope out (prefix (o ∷ o2 ∷ os) [] t) a t' p h e x = absurd p.0
 silent model scope out _ a t' p h e x = absurd p
 
-pub quiet_is : (model : Model) (scope : Scope) (sync : Sync) (out : ℕ) (s : Term) → sync.outs ≡ (out ∷ []) ∷ [] → IsPlain 0 s → speaks out s ≡ false
+pub quiet_is : (model : Model) (scope : Scope) (sync : Sync) (out : ℕ) (s : Term) → sync.outs ≡ (out ∷ []) ∷ [] → IsPlain 0 s
+    → speaks out s ≡ false
     → IsQuiescent model scope sync s
 quiet_is model scope sync out s e p h = record {
   still = λ t' x. plain_still model scope s t' p x;
@@ -61,7 +62,8 @@ some_number (give e) h =
 abbrev Speaking : Model → Scope → ℕ → Term → Type 0
 Speaking model scope out s = (a : Action) × (t' : Term) × (channels a ≡ out ∷ []) × Step model scope s (act a) t'
 
-offer_speaks : (model : Model) (scope : Scope) (out : ℕ) (c : ℕ) (ps : List Position) (t : Term) → IsInt scope out → ArePlainOffers 0 (offer_on c ps ∷ [])
+offer_speaks : (model : Model) (scope : Scope) (out : ℕ) (c : ℕ) (ps : List Position) (t : Term) → IsInt scope out
+    → ArePlainOffers 0 (offer_on c ps ∷ [])
     → eqb c out ≡ true → Speaking model scope out (prefix (offer_on c ps ∷ []) [] t)
 offer_speaks model scope out c [] t i h k = absurd h
 offer_speaks model scope out c (p ∷ p2 ∷ ps) t i h k = absurd h
@@ -72,14 +74,16 @@ offer_speaks model scope out c (p ∷ []) t i h k =
     let listed : In u (offers_met (offer_on c (p ∷ []) ∷ []) a t) = rw k (rw n.2 (inl refl)) in
     (a, u, refl, offer_is model scope c (p ∷ []) a t u (int_action model.defs.table scope out n.0 n.1 i) listed)
 
-speaks_some : (model : Model) (scope : Scope) (out : ℕ) (s : Term) → IsInt scope out → IsPlain 0 s → speaks out s ≡ true → Speaking model scope out s
+speaks_some : (model : Model) (scope : Scope) (out : ℕ) (s : Term) → IsInt scope out → IsPlain 0 s → speaks out s ≡ true
+    → Speaking model scope out s
 speaks_some model scope out stop i p h = cc
 speaks_some model scope out (prefix (o ∷ []) [] t) i p h = offer_speaks model scope out o.channel o.positions t i p.0 h
 speaks_some model scope out (prefix [] [] t) i p h = absurd p.0
 speaks_some model scope out (prefix (o ∷ o2 ∷ os) [] t) i p h = absurd p.0
 speaks_some model scope out _ i p h = absurd p
 
-quiet_by : (model : Model) (scope : Scope) (sync : Sync) (out : ℕ) (s : Term) (x : Bool) → IsInt scope out → sync.outs ≡ (out ∷ []) ∷ [] → IsPlain 0 s → speaks out s ≡ x
+quiet_by : (model : Model) (scope : Scope) (sync : Sync) (out : ℕ) (s : Term) (x : Bool) → IsInt scope out
+    → sync.outs ≡ (out ∷ []) ∷ [] → IsPlain 0 s → speaks out s ≡ x
     → IsQuiescent model scope sync s → speaks out s ≡ false
 quiet_by model scope sync out s false i e p k q = k
 quiet_by model scope sync out s true i e p k q =
@@ -87,6 +91,7 @@ quiet_by model scope sync out s true i e p k q =
     let m : In (channels g.0) sync.outs = subst (λ sets. In (channels g.0) sets) (sym e) (inl g.2) in
     absurd (q.silent g.0 g.1 m g.3)
 
-pub quiet_speaks_not : (model : Model) (scope : Scope) (sync : Sync) (out : ℕ) (s : Term) → IsInt scope out → sync.outs ≡ (out ∷ []) ∷ [] → IsPlain 0 s
+pub quiet_speaks_not : (model : Model) (scope : Scope) (sync : Sync) (out : ℕ) (s : Term) → IsInt scope out
+    → sync.outs ≡ (out ∷ []) ∷ [] → IsPlain 0 s
     → IsQuiescent model scope sync s → speaks out s ≡ false
 quiet_speaks_not model scope sync out s i e p q = quiet_by model scope sync out s (speaks out s) i e p refl q

@@ -2,10 +2,10 @@
 use Rattle.std.proofs.Common.{◌≡◌, ◌<◌, ◌⊎◌, ◌↔◌, inl, inr, ℕ, Bool, true, false, cond, List, [], ◌∷◌, ◌++◌, length, refl, sym, ◌∙◌, ap, subst, arith}
 use Rattle.std.proofs.lemmas.List.{length-map}
 use Rattle.txs_terms.specs.declared.term.Term as rust
-use Rattle.txs_terms.specs.Action.{Action, act, Scope, IsAction}
+use Rattle.txs_terms.specs.Action.{Action, Scope, IsAction}
 use Rattle.txs_terms.specs.Term.{Term}
-use Rattle.txs_terms.specs.Rules.{In, Model, Step}
-use Rattle.txs_terms.specs.After.{Sync, Observable, acted, quiescence, here, IsQuiescent, After, Out}
+use Rattle.txs_terms.specs.Rules.{In, Model}
+use Rattle.txs_terms.specs.After.{Sync, Observable, acted, quiescence, here, After, Out}
 use Rattle.txs_terms.specs.Sets.{IsAfter, CanDo, IsInt, IsPlain, ArePlain}
 use Rattle.txs_terms.specs.Moves.{moves_of, all_moves, speaks, quiet_ones}
 use Rattle.txs_terms.specs.View.{term_of, terms_of}
@@ -60,7 +60,8 @@ all_in (r ∷ set) a s t (inl e) h = in_front t (moves_of r a) (all_moves set a)
 all_in (r ∷ set) a s t (inr m) h = in_back t (moves_of r a) (all_moves set a) (all_in set a s t m h)
 
 pub set_acts : (model : Model) (scope : Scope) (sync : Sync) (b : Term) (trace : List Observable) (set : List Term) (a : Action) → ArePlain set
-    → IsAction model.defs.table scope a → IsAfter model scope sync b trace set → IsAfter model scope sync b (acted a ∷ trace) (all_moves set a)
+    → IsAction model.defs.table scope a → IsAfter model scope sync b trace set
+    → IsAfter model scope sync b (acted a ∷ trace) (all_moves set a)
 set_acts model scope sync b trace set a p i h t = (
   λ m. let g = all_is set a t m in (g.0, t, (h g.0).0 g.1, step_is model scope g.0 a t (plain_at set g.0 p g.1) i g.2, here),
   λ k. let m = (h k.0).1 k.2 in
@@ -70,7 +71,8 @@ set_acts model scope sync b trace set a p i h t = (
 )
 
 pub set_can_do : (model : Model) (scope : Scope) (sync : Sync) (b : Term) (trace : List Observable) (set : List Term) (a : Action) → ArePlain set
-    → IsAction model.defs.table scope a → IsAfter model scope sync b trace set → (0 < length (all_moves set a)) ↔ CanDo model scope sync b trace a
+    → IsAction model.defs.table scope a → IsAfter model scope sync b trace set
+    → (0 < length (all_moves set a)) ↔ CanDo model scope sync b trace a
 set_can_do model scope sync b trace set a p i h = (
   λ n. let m = some_in (all_moves set a) n in
       let g = all_is set a m.0 m.1 in
@@ -80,7 +82,8 @@ set_can_do model scope sync b trace set a p i h = (
 
 -- ---- after quiescence
 
-kept_by : (out : ℕ) (s : Term) (set : List Term) (t : Term) (x : Bool) → (In t (quiet_ones out set) → In t set × (speaks out t ≡ false)) → speaks out s ≡ x
+kept_by : (out : ℕ) (s : Term) (set : List Term) (t : Term) (x : Bool) → (In t (quiet_ones out set)
+    → In t set × (speaks out t ≡ false)) → speaks out s ≡ x
     → In t (cond x (quiet_ones out set) (s ∷ quiet_ones out set)) → In t (s ∷ set) × (speaks out t ≡ false)
 kept_by out s set t true ih e h = let g = ih h in (inr g.0, g.1)
 kept_by out s set t false ih e (inl q) = (inl q, ap (speaks out) q ∙ e)
@@ -90,7 +93,8 @@ kept_is : (out : ℕ) (set : List Term) (t : Term) → In t (quiet_ones out set)
 kept_is out [] t h = absurd h
 kept_is out (s ∷ set) t h = kept_by out s set t (speaks out s) (kept_is out set t) refl h
 
-kept_in_by : (out : ℕ) (s : Term) (set : List Term) (t : Term) (x : Bool) → (In t set → In t (quiet_ones out set)) → speaks out s ≡ x → (t ≡ s) ⊎ In t set
+kept_in_by : (out : ℕ) (s : Term) (set : List Term) (t : Term) (x : Bool) → (In t set → In t (quiet_ones out set))
+    → speaks out s ≡ x → (t ≡ s) ⊎ In t set
     → speaks out t ≡ false → In t (cond x (quiet_ones out set) (s ∷ quiet_ones out set))
 kept_in_by out s set t true ih a (inl q) e = let b : true ≡ false = sym a ∙ (sym (ap (speaks out) q) ∙ e) in absurd (cc)
 kept_in_by out s set t true ih a (inr m) e = ih m
@@ -101,14 +105,17 @@ kept_in : (out : ℕ) (set : List Term) (t : Term) → In t set → speaks out t
 kept_in out [] t m e = absurd m
 kept_in out (s ∷ set) t m e = kept_in_by out s set t (speaks out s) (λ k. kept_in out set t k e) refl m e
 
-pub set_rests : (model : Model) (scope : Scope) (sync : Sync) (b : Term) (trace : List Observable) (set : List Term) (out : ℕ) → ArePlain set
-    → IsInt scope out → sync.outs ≡ (out ∷ []) ∷ [] → IsAfter model scope sync b trace set → IsAfter model scope sync b (quiescence ∷ trace) (quiet_ones out set)
+pub set_rests : (model : Model) (scope : Scope) (sync : Sync) (b : Term) (trace : List Observable) (set : List Term) (out : ℕ)
+    → ArePlain set
+    → IsInt scope out → sync.outs ≡ (out ∷ []) ∷ [] → IsAfter model scope sync b trace set
+    → IsAfter model scope sync b (quiescence ∷ trace) (quiet_ones out set)
 set_rests model scope sync b trace set out p i e h t = (
   λ m. let g = kept_is out set t m in ((h t).0 g.0, quiet_is model scope sync out t e (plain_at set t p g.0) g.1),
   λ k. let m = (h t).1 k.0 in kept_in out set t m (quiet_speaks_not model scope sync out t i e (plain_at set t p m) k.1),
 )
 
-pub set_quiet : (model : Model) (scope : Scope) (sync : Sync) (b : Term) (trace : List Observable) (set : List Term) (out : ℕ) → ArePlain set
+pub set_quiet : (model : Model) (scope : Scope) (sync : Sync) (b : Term) (trace : List Observable) (set : List Term) (out : ℕ)
+    → ArePlain set
     → IsInt scope out → sync.outs ≡ (out ∷ []) ∷ [] → IsAfter model scope sync b trace set
     → (0 < length (quiet_ones out set)) ↔ Out model scope sync b trace quiescence
 set_quiet model scope sync b trace set out p i e h = (
