@@ -4,3 +4,6 @@ pub mod Sessions
 pub mod Courses
 pub mod Calls
 pub mod Feeding
+pub mod Talking
+pub mod Noted
+pub mod Serving

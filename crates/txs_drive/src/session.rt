@@ -83,6 +83,13 @@ impl Session {
         }
     }
 
+    /// Whether FAIL was written.
+    pub(crate) fn has_failed(&self) -> bool
+        ensures { result ≡ (state_of self.now).has_failed }
+    {
+        self.has_failed
+    }
+
     /// How many ends are dialled.
     pub(crate) fn dialled(&self) -> usize
         ensures { result ≡ dialled_of (state_of self.now).run }

@@ -1,0 +1,190 @@
+-- What was read of a source, and what came of it.
+use Rattle.std.proofs.Common.{◌≡◌, ◌≤◌, ◌<◌, ◌+◌, ℕ, Bool, true, false, List, [], ◌∷◌, ◌++◌, Option, Some, length, refl, sym, ◌∙◌, ap, append_assoc, append-nil, subst, arith, length-append}
+use Rattle.txs_outside.specs.declared.sut.SutEntry.{SutEntry}
+use Rattle.txs_outside.specs.Known.{Grows, Grows-none, Grows-then}
+use Rattle.txs_drive.specs.declared.model.Model.{Model}
+use Rattle.txs_drive.specs.declared.feed.Finish.{Finish}
+use Rattle.txs_drive.specs.declared.feed.Finish.TheVariants as finish
+use Rattle.txs_drive.specs.Session.{State, first}
+use Rattle.txs_drive.specs.Course.{Event, lines_in}
+use Rattle.txs_drive.specs.Served.{Ending, open', end, fault, limit, command_lines, last_part, Gave, Rests}
+use Rattle.txs_drive.specs.Going.{HasNoFeed, joined, Went, Took, TookSome, Ended, Conversed}
+use Rattle.txs_drive.proofs.Courses.{went_then}
+use Rattle.txs_drive.proofs.Feeding.{took_part, took_then, commands_joined, commands_part}
+
+-- these bytes were given, their lines were carried out, and the rest is pending
+pub record Talked (m : Model) (t : State) (g0 g1 : Option (List ℕ)) (k0 k1 : Option (List ℕ)) (u0 u1 : Option (List SutEntry)) (h0 h1 : Option ℕ) (f0 f1 : ℕ) (taken : ℕ) (pending : List ℕ) : Type 0 where
+  pub given : List ℕ
+  pub gave : Grows g0 g1 given
+  pub count : length given ≡ taken
+  pub took : Took m first t k0 k1 u0 u1 h0 h1 f0 f1 given pending false
+
+-- nothing was read yet
+pub talked_begin : (m : Model) (s : State) (g0 k : Option (List ℕ)) (u : Option (List SutEntry)) (h : Option ℕ) (f : ℕ) (pending : List ℕ) → s ≡ first → pending ≡ [] → Talked m s g0 g0 k k u u h h f f 0 pending
+talked_begin m s g0 k u h f pending e n = record {
+  given = [];
+  gave = Grows-none g0;
+  count = refl;
+  took = subst (λ (p : List ℕ). Took m first s k k u u h h f f [] p false) (sym n) (subst (λ (t : State). Took m first t k k u u h h f f [] [] false) (sym e) (took_part m first k u h f []));
+}
+
+-- a piece was read, and its lines were carried out
+pub talked_on : (m : Model) (t v : State) (g0 g1 g2 k0 k1 k2 : Option (List ℕ)) (u0 u1 u2 : Option (List SutEntry)) (h0 h1 h2 : Option ℕ) (f0 f1 f2 n i : ℕ) (pending piece later : List ℕ)
+    → Talked m t g0 g1 k0 k1 u0 u1 h0 h1 f0 f1 n pending → Grows g1 g2 piece → i ≡ n + length piece → TookSome m t v k1 k2 u1 u2 h1 h2 f1 f2 (pending ++ piece) later false
+    → Talked m v g0 g2 k0 k2 u0 u2 h0 h2 f0 f2 i later
+talked_on m t v g0 g1 g2 k0 k1 k2 u0 u1 u2 h0 h1 h2 f0 f1 f2 n i pending piece later x g e y = record {
+  given = x.given ++ piece;
+  gave = Grows-then g0 g1 g2 x.given piece x.gave g;
+  count = omega (arith, length-append x.given piece, x.count, e);
+  took = subst (λ (r : List ℕ). Took m first v k0 k2 u0 u2 h0 h2 f0 f2 (x.given ++ piece) r false) (y.2 refl)
+      (took_then m first t v k0 k1 k2 u0 u1 u2 h0 h1 h2 f0 f1 f2 x.given piece pending y.0 false x.took y.1);
+}
+
+-- the lines of what was taken
+took_lines : (e : Ending) (bytes rest : List ℕ) (lines : List (List ℕ)) (events : List Event) → bytes ≡ joined lines ++ rest → lines_in events ≡ lines → command_lines (joined lines ++ rest) e ≡ lines ++ command_lines rest e
+    → command_lines bytes e ≡ lines_in events ++ command_lines rest e
+took_lines e bytes rest lines events split read c = ap (λ (b : List ℕ). command_lines b e) split ∙ (c ∙ ap (λ (l : List (List ℕ)). l ++ command_lines rest e) (sym read))
+
+-- a `quit` was met in a piece
+pub conversed_quit : (m : Model) (t v : State) (g0 g1 g2 : Option (List ℕ)) (at_end : Bool) (k0 k1 k2 : Option (List ℕ)) (u0 u1 u2 : Option (List SutEntry)) (h0 h1 h2 : Option ℕ) (f0 f1 f2 n : ℕ) (pending piece later : List ℕ)
+    → Talked m t g0 g1 k0 k1 u0 u1 h0 h1 f0 f1 n pending → Grows g1 g2 piece → n + length piece ≤ 16777216 → v.todo ≡ [] → TookSome m t v k1 k2 u1 u2 h1 h2 f1 f2 (pending ++ piece) later true
+    → Conversed m finish.Quit v g0 g2 at_end k0 k2 u0 u2 h0 h2 f0 f2
+conversed_quit m t v g0 g1 g2 at_end k0 k1 k2 u0 u1 u2 h0 h1 h2 f0 f1 f2 n pending piece later x g within idle y =
+    let took = took_then m first t v k0 k1 k2 u0 u1 u2 h0 h1 h2 f0 f1 f2 x.given piece pending y.0 true x.took y.1 in
+    record {
+      given = x.given ++ piece;
+      commands = x.given ++ piece;
+      ending = open';
+      has_quit = true;
+      events = took.went.events;
+      behind = command_lines y.0 open';
+      gave = Grows-then g0 g1 g2 x.given piece x.gave g;
+      split = (refl, omega (arith, length-append x.given piece, x.count, within));
+      ended = λ e. cc;
+      leads = took.went.leads;
+      lines = took_lines open' (x.given ++ piece) y.0 took.lines took.went.events took.split took.went.read (commands_joined open' took.lines y.0 took.each);
+      rests = (idle, (took.went.left refl).0, (took.went.left refl).1);
+      text = took.went.text;
+      calls = took.went.calls;
+      hung = took.went.hung;
+      later = took.went.later;
+      caused = took.went.caused;
+      status = λ failed. refl;
+    }
+
+-- the source failed
+pub conversed_fault : (m : Model) (t : State) (g0 g1 g2 : Option (List ℕ)) (at_end : Bool) (k0 k1 : Option (List ℕ)) (u0 u1 : Option (List SutEntry)) (h0 h1 : Option ℕ) (f0 f1 n : ℕ) (pending : List ℕ)
+    → Talked m t g0 g1 k0 k1 u0 u1 h0 h1 f0 f1 n pending → Grows g1 g2 [] → n ≤ 16777216 → HasNoFeed pending → t.todo ≡ []
+    → Conversed m finish.Failed t g0 g2 at_end k0 k1 u0 u1 h0 h1 f0 f1
+conversed_fault m t g0 g1 g2 at_end k0 k1 u0 u1 h0 h1 f0 f1 n pending x g within nf idle = record {
+  given = x.given ++ [];
+  commands = x.given ++ [];
+  ending = fault;
+  has_quit = false;
+  events = x.took.went.events;
+  behind = [];
+  gave = Grows-then g0 g1 g2 x.given [] x.gave g;
+  split = (refl, omega (arith, length-append x.given [], x.count, within));
+  ended = λ e. cc;
+  leads = x.took.went.leads;
+  lines = ap (λ (b : List ℕ). command_lines b fault) (append-nil x.given)
+      ∙ (took_lines fault x.given pending x.took.lines x.took.went.events x.took.split x.took.went.read (commands_joined fault x.took.lines pending x.took.each)
+      ∙ ap (λ (l : List (List ℕ)). lines_in x.took.went.events ++ l) (commands_part fault pending nf));
+  rests = (idle, refl);
+  text = x.took.went.text;
+  calls = x.took.went.calls;
+  hung = x.took.went.hung;
+  later = x.took.went.later;
+  caused = x.took.went.caused;
+  status = λ failed. refl;
+}
+
+one_byte : (xs : List ℕ) → 0 < length xs → length xs ≤ 1 → (b : ℕ) × (xs ≡ b ∷ [])
+one_byte [] h k = absurd (omega (arith, h))
+one_byte (b ∷ []) h k = (b, refl)
+one_byte (b ∷ c ∷ xs) h k = absurd (omega (arith, k))
+
+-- one byte past the limit was read
+pub conversed_limit : (m : Model) (t : State) (g0 g1 g2 : Option (List ℕ)) (at_end : Bool) (k0 k1 : Option (List ℕ)) (u0 u1 : Option (List SutEntry)) (h0 h1 : Option ℕ) (f0 f1 n : ℕ) (pending piece : List ℕ)
+    → Talked m t g0 g1 k0 k1 u0 u1 h0 h1 f0 f1 n pending → Grows g1 g2 piece → n ≡ 16777216 → 0 < length piece → length piece ≤ 1 → HasNoFeed pending → t.todo ≡ []
+    → Conversed m finish.TooLong t g0 g2 at_end k0 k1 u0 u1 h0 h1 f0 f1
+conversed_limit m t g0 g1 g2 at_end k0 k1 u0 u1 h0 h1 f0 f1 n pending piece x g full some most nf idle =
+    let b = one_byte piece some most in
+    record {
+      given = x.given ++ piece;
+      commands = x.given;
+      ending = limit;
+      has_quit = false;
+      events = x.took.went.events;
+      behind = [];
+      gave = Grows-then g0 g1 g2 x.given piece x.gave g;
+      split = (b.0, ap (λ (z : List ℕ). x.given ++ z) b.1, x.count ∙ full);
+      ended = λ e. cc;
+      leads = x.took.went.leads;
+      lines = took_lines limit x.given pending x.took.lines x.took.went.events x.took.split x.took.went.read (commands_joined limit x.took.lines pending x.took.each)
+          ∙ ap (λ (l : List (List ℕ)). lines_in x.took.went.events ++ l) (commands_part limit pending nf);
+      rests = (idle, refl);
+      text = x.took.went.text;
+      calls = x.took.went.calls;
+      hung = x.took.went.hung;
+      later = x.took.went.later;
+      caused = x.took.went.caused;
+      status = λ failed. refl;
+    }
+
+end_lines : (given pending line : List ℕ) (lines : List (List ℕ)) (events : List Event) → given ≡ joined lines ++ pending → command_lines (joined lines ++ pending) end ≡ lines ++ command_lines pending end
+    → command_lines pending end ≡ last_part end pending → line ≡ pending → lines_in events ≡ lines ++ last_part end line → command_lines (given ++ []) end ≡ lines_in events ++ []
+end_lines given pending line lines events split c part e read =
+    ap (λ (b : List ℕ). command_lines b end) (append-nil given) ∙ (ap (λ (b : List ℕ). command_lines b end) split ∙ (c
+    ∙ (ap (λ (l : List (List ℕ)). lines ++ l) part ∙ (ap (λ (z : List ℕ). lines ++ last_part end z) (sym e) ∙ (sym read ∙ sym (append-nil (lines_in events)))))))
+
+-- the source ended, and the last line was carried out
+pub conversed_end : (m : Model) (t v : State) (g0 g1 g2 : Option (List ℕ)) (at_end : Bool) (k0 k1 k2 : Option (List ℕ)) (u0 u1 u2 : Option (List SutEntry)) (h0 h1 h2 : Option ℕ) (f0 f1 f2 n : ℕ) (pending line : List ℕ) (f : Finish)
+    → Talked m t g0 g1 k0 k1 u0 u1 h0 h1 f0 f1 n pending → Grows g1 g2 [] → n ≤ 16777216 → HasNoFeed pending → v.todo ≡ [] → at_end ≡ true → line ≡ pending
+    → Ended m t v k1 k2 u1 u2 h1 h2 f1 f2 line f → Conversed m f v g0 g2 at_end k0 k2 u0 u2 h0 h2 f0 f2
+conversed_end m t v g0 g1 g2 at_end k0 k1 k2 u0 u1 u2 h0 h1 h2 f0 f1 f2 n pending line finish.Quit x g within nf idle ended e y =
+    let whole = went_then m first t v k0 k1 k2 u0 u1 u2 h0 h1 h2 f0 f1 f2 x.took.lines (last_part end line) false true x.took.went y.0 in
+    record {
+      given = x.given ++ [];
+      commands = x.given ++ [];
+      ending = end;
+      has_quit = true;
+      events = whole.events;
+      behind = [];
+      gave = Grows-then g0 g1 g2 x.given [] x.gave g;
+      split = (refl, omega (arith, length-append x.given [], x.count, within));
+      ended = λ _. ended;
+      leads = whole.leads;
+      lines = end_lines x.given pending line x.took.lines whole.events x.took.split (commands_joined end x.took.lines pending x.took.each) (commands_part end pending nf) e whole.read;
+      rests = (idle, (whole.left refl).0, (whole.left refl).1);
+      text = whole.text;
+      calls = whole.calls;
+      hung = whole.hung;
+      later = whole.later;
+      caused = whole.caused;
+      status = λ failed. refl;
+    }
+conversed_end m t v g0 g1 g2 at_end k0 k1 k2 u0 u1 u2 h0 h1 h2 f0 f1 f2 n pending line finish.End x g within nf idle ended e y =
+    let whole = went_then m first t v k0 k1 k2 u0 u1 u2 h0 h1 h2 f0 f1 f2 x.took.lines (last_part end line) false false x.took.went y.0 in
+    record {
+      given = x.given ++ [];
+      commands = x.given ++ [];
+      ending = end;
+      has_quit = false;
+      events = whole.events;
+      behind = [];
+      gave = Grows-then g0 g1 g2 x.given [] x.gave g;
+      split = (refl, omega (arith, length-append x.given [], x.count, within));
+      ended = λ _. ended;
+      leads = whole.leads;
+      lines = end_lines x.given pending line x.took.lines whole.events x.took.split (commands_joined end x.took.lines pending x.took.each) (commands_part end pending nf) e whole.read;
+      rests = (idle, refl);
+      text = whole.text;
+      calls = whole.calls;
+      hung = whole.hung;
+      later = whole.later;
+      caused = whole.caused;
+      status = λ failed. refl;
+    }
+conversed_end m t v g0 g1 g2 at_end k0 k1 k2 u0 u1 u2 h0 h1 h2 f0 f1 f2 n pending line finish.Failed x g within nf idle ended e y = absurd y.1
+conversed_end m t v g0 g1 g2 at_end k0 k1 k2 u0 u1 u2 h0 h1 h2 f0 f1 f2 n pending line finish.TooLong x g within nf idle ended e y = absurd y.1

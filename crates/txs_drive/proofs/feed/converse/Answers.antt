@@ -1,0 +1,67 @@
+use Rattle.std.proofs.Common.{◌≡◌, ◌<◌, ◌≤◌, ◌+◌, ◌∙◌, [], ℕ, List, Bool, arith, refl, ap, length, subst, sym}
+use Rattle.txs_outside.specs.Known.{Grows}
+use Rattle.txs_drive.specs.declared.doing.Doing.{Doing}
+use Rattle.txs_drive.specs.Session.{State}
+use Rattle.txs_drive.specs.Ready.{state_of, IsTied}
+use Rattle.txs_drive.specs.Going.{HasNoFeed, TookSome}
+use Rattle.txs_drive.proofs.Talking.{talked_begin, talked_on, conversed_quit, conversed_fault, conversed_limit, conversed_end}
+use Rattle.txs_drive.proofs.feed.converse.Goals as goal
+
+pub reads-init : goal.reads-init
+reads-init g c = record {
+  talked = talked_begin c.args.model.now (state_of c.args.session.now) _ _ _ _ _ c.new-pending.result c.requires.new c.new-pending.ensures;
+  ready = c.requires.ready;
+  idle = ap (λ (s : State). s.todo) c.requires.new;
+  tied = subst (λ (s : State). IsTied s.run) (sym c.requires.new) tt;
+  line = subst HasNoFeed (sym c.new-pending.ensures) tt;
+  within = omega arith;
+  source = omega arith;
+  sink = omega arith;
+}
+
+pub reads-preserved : goal.reads-preserved
+reads-preserved g c =
+    let gave : Grows (g.S.Source.given c.reads.source) (g.S.Source.given c.read_piece.new.source) c.as_slice-piece.result.now
+      = subst (λ (p : List ℕ). Grows (g.S.Source.given c.reads.source) (g.S.Source.given c.read_piece.new.source) p) (sym c.as_slice-piece.ensures) (rw c.in-Piece.is at c.in_ok-read_piece.ensures.given) in
+    let size = rw c.in-Piece.is at c.in_ok-read_piece.ensures.size in
+    let count : c.len-taken.result ≡ length c.as_slice-piece.result.now = c.len-taken.ensures ∙ ap length (sym c.as_slice-piece.ensures) in
+    let took = rw c.if-branch.false at c.in_ok-take_piece-in-Piece.ensures.took in
+    record {
+      talked = talked_on _ _ _ _ _ _ _ _ _ _ _ _ _ _ _ _ _ _ c.reads.taken (c.reads.taken + c.len-taken.result) c.reads.pending c.as_slice-piece.result.now c.take_piece.new.pending c.reads.invariant.talked gave (omega (arith, count)) took;
+      ready = c.in_ok-take_piece-in-Piece.ensures.ready;
+      idle = c.in_ok-take_piece-in-Piece.ensures.idle;
+      tied = c.in_ok-take_piece-in-Piece.ensures.tied c.if-branch.false;
+      line = c.in_ok-take_piece-in-Piece.ensures.line;
+      within = let below : c.reads.taken < 16777216 = omega (arith, c.reads.invariant.within, c.if-taken-eq-LIMIT.false) in omega (arith, c.room_left.ensures.within below, size.1, c.len-taken.ensures);
+      source = omega (arith, c.reads.invariant.source, c.read_piece.ensures.cause.later);
+      sink = omega (arith, c.reads.invariant.sink, c.in_ok-take_piece-in-Piece.ensures.sink.later);
+    }
+
+pub returns-in-Failed-clause-conversed : goal.returns-in-Failed-clause-conversed
+returns-in-Failed-clause-conversed g c =
+    let gave = rw c.in-Failed.is at c.in_ok-read_piece.ensures.given in
+    conversed_fault _ _ _ _ _ _ _ _ _ _ _ _ _ _ c.reads.taken c.reads.pending c.reads.invariant.talked gave c.reads.invariant.within c.reads.invariant.line c.reads.invariant.idle
+
+pub returns-then-taken-eq-LIMIT-clause-conversed : goal.returns-then-taken-eq-LIMIT-clause-conversed
+returns-then-taken-eq-LIMIT-clause-conversed g c =
+    let gave = rw c.in-Piece.is at c.in_ok-read_piece.ensures.given in
+    let size = rw c.in-Piece.is at c.in_ok-read_piece.ensures.size in
+    let one : c.room_left.result ≡ 1 = c.room_left.ensures.one c.if-taken-eq-LIMIT.true in
+    conversed_limit _ _ _ _ _ _ _ _ _ _ _ _ _ _ c.reads.taken c.reads.pending c.in-Piece.piece c.reads.invariant.talked gave c.if-taken-eq-LIMIT.true size.0 (omega (arith, size.1)) c.reads.invariant.line c.reads.invariant.idle
+
+pub returns-then-branch-clause-conversed : goal.returns-then-branch-clause-conversed
+returns-then-branch-clause-conversed g c =
+    let gave : Grows (g.S.Source.given c.reads.source) (g.S.Source.given c.read_piece.new.source) c.as_slice-piece.result.now
+      = subst (λ (p : List ℕ). Grows (g.S.Source.given c.reads.source) (g.S.Source.given c.read_piece.new.source) p) (sym c.as_slice-piece.ensures) (rw c.in-Piece.is at c.in_ok-read_piece.ensures.given) in
+    let size = rw c.in-Piece.is at c.in_ok-read_piece.ensures.size in
+    let count : length c.in-Piece.piece ≡ length c.as_slice-piece.result.now = ap length (sym c.as_slice-piece.ensures) in
+    let below : c.reads.taken < 16777216 = omega (arith, c.reads.invariant.within, c.if-taken-eq-LIMIT.false) in
+    let took = rw c.if-branch.true at c.in_ok-take_piece-in-Piece.ensures.took in
+    conversed_quit _ _ _ _ _ _ _ _ _ _ _ _ _ _ _ _ _ _ _ c.reads.taken c.reads.pending c.as_slice-piece.result.now c.take_piece.new.pending c.reads.invariant.talked gave
+    (omega (arith, c.room_left.ensures.within below, size.1, count)) c.in_ok-take_piece-in-Piece.ensures.idle took
+
+pub returns-in-End-clause-conversed : goal.returns-in-End-clause-conversed
+returns-in-End-clause-conversed g c =
+    let gave = rw c.in-End.is at c.in_ok-read_piece.ensures.given in
+    conversed_end _ _ _ _ _ _ _ _ _ _ _ _ _ _ _ _ _ _ _ c.reads.taken c.reads.pending c.as_slice.result.now c.in_ok-finish-in-End.finish c.reads.invariant.talked gave c.reads.invariant.within c.reads.invariant.line
+    c.in_ok-finish-in-End.ensures.idle (c.in_ok-read_piece.ensures.end c.in-End.is) c.as_slice.ensures c.in_ok-finish-in-End.ensures.went

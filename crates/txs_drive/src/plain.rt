@@ -1,0 +1,89 @@
+ghost use Rattle.std.specs.Prelude.{◌≡◌, ◌≢◌, ◌⊎◌, ◌<◌, []};
+ghost use Rattle.txs_outside.specs.Causes.{Rose};
+ghost use Rattle.txs_outside.specs.Known.{Grows, Adds};
+ghost use Rattle.txs_terms.specs.Sets.{IsPlain};
+ghost use Rattle.txs_terms.specs.View.{term_of};
+ghost use Rattle.txs_drive.specs.Course.{hung_after};
+ghost use Rattle.txs_drive.specs.Served.{Served, last_of};
+ghost use Rattle.txs_drive.specs.Going.{code_of};
+
+use crate::driver::say;
+use crate::feed::converse;
+use crate::{Finish, Model, Session, Stop};
+use std::alloc::Global;
+use txs_outside::{Sink, Source, Status, Sut};
+
+const NOMEM: &str = "NOMEM\n";
+
+/// Writes a line, and answers the status behind it.
+pub fn close<K: Sink>(sink: &mut K, line: &str, code: u8) -> Status
+    requires { code ≢ 4 }
+    ensures written { result.code ≡ code → Grows (K.taken sink.old) (K.taken sink.new) line.now }
+    ensures code { (result.code ≡ code) ⊎ (result.code ≡ 4) }
+    ensures fault { result.code ≡ 4 → Rose (K.faults sink.old) (K.faults sink.new) }
+{
+    match say(sink, line) {
+        Ok(()) => Status { code },
+        Err(_) => Status { code: 4 },
+    }
+}
+
+/// The status of a session.
+fn code_of(finish: Finish, failed: bool) -> u8
+    ensures { result ≡ code_of finish failed }
+{
+    match finish {
+        Finish::Quit | Finish::End => {
+            if failed {
+                10
+            } else {
+                0
+            }
+        }
+        Finish::Failed => 3,
+        Finish::TooLong => 6,
+    }
+}
+
+/// Hangs up where so many ends are dialled.
+fn hang_up_last<U: Sut>(dialled: usize, sut: &mut U)
+    ensures calls { Adds (U.calls sut.old) (U.calls sut.new) [] }
+    ensures hang_ups { U.hang_ups sut.new ≡ hung_after (last_of dialled) (U.hang_ups sut.old) }
+    ensures faults { U.faults sut.new ≡ U.faults sut.old }
+{
+    if dialled > 0 {
+        sut.hang_up();
+    }
+}
+
+/// One session of a model, from the source's commands to the status; the ends that are dialled last are hung up.
+pub fn run_plain<S: Source, K: Sink, U: Sut>(
+    alloc: Global,
+    model: &Model,
+    source: &mut S,
+    sink: &mut K,
+    sut: &mut U,
+) -> Status
+    requires { IsPlain 0 (term_of model.now.start) }
+
+    // What was read, written and called, and the status, are those of the reference run.
+    ensures served { result.code ≢ 4 → result.code ≢ 5
+        → Served model.now (S.given source.old) (S.given source.new) (S.at_end source.new) (K.taken sink.old) (K.taken sink.new) (U.calls sut.old) (U.calls sut.new)
+          (U.hang_ups sut.old) (U.hang_ups sut.new) (U.faults sut.old) (U.faults sut.new) result.code }
+
+    // No fault is told by itself, and no other status is given.
+    ensures read { result.code ≡ 3 → Rose (S.faults source.old) (S.faults source.new) }
+    ensures write { result.code ≡ 4 → Rose (K.faults sink.old) (K.faults sink.new) }
+    ensures known { (result.code ≡ 0) ⊎ (result.code ≡ 10) ⊎ (result.code ≡ 3) ⊎ (result.code ≡ 4) ⊎ (result.code ≡ 5) ⊎ (result.code ≡ 6) }
+{
+    let mut session = Session::new(alloc);
+    let outcome = converse(alloc, model, &mut session, source, sink, sut);
+    hang_up_last(session.dialled(), sut);
+    match outcome {
+        Ok(finish) => Status {
+            code: code_of(finish, session.has_failed()),
+        },
+        Err(Stop::Sink) => Status { code: 4 },
+        Err(Stop::NoMemory) => close(sink, NOMEM, 5),
+    }
+}
