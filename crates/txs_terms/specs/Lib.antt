@@ -5,3 +5,5 @@ pub mod Term
 pub mod Rules
 pub mod After
 pub mod Sets
+pub mod View
+pub mod Moves

@@ -1,15 +1,19 @@
 -- Sets of terms that are the terms after a trace, member for member.
 use Rattle.std.specs.Prelude.{◌≡◌, ◌↔◌, ℕ, ◌+◌, true, nat_lt, List, [], ◌∷◌}
-use Rattle.txs_values.specs.Value.{Ty, whole, num, fits}
+use Rattle.txs_values.specs.Value.{Ty, whole, Value, num, fits}
 use Rattle.txs_terms.specs.Expr.{Expr, val, slot}
-use Rattle.txs_terms.specs.Action.{Scope, types_on}
+use Rattle.txs_terms.specs.Action.{Action, act, Scope, types_on}
 use Rattle.txs_terms.specs.Term.{Position, give, take, Offer, Term, stop, prefix}
-use Rattle.txs_terms.specs.Rules.{In, Model}
+use Rattle.txs_terms.specs.Rules.{In, Model, Step}
 use Rattle.txs_terms.specs.After.{Sync, Observable, After}
 
 -- the list has the terms after the trace, and no others
 abbrev pub IsAfter : Model → Scope → Sync → Term → List Observable → List Term → Type 0
 IsAfter model scope sync b trace set = (t : Term) → In t set ↔ After model scope sync b trace t
+
+-- some term after the trace does the action
+abbrev pub CanDo : Model → Scope → Sync → Term → List Observable → Action → Type 0
+CanDo model scope sync b trace a = (t : Term) × (t' : Term) × After model scope sync b trace t × Step model scope t (act a) t'
 
 -- the channel has one position, of type Int
 abbrev pub IsInt : Scope → ℕ → Type 0
@@ -46,3 +50,13 @@ IsPlain n _ = ⊥
 abbrev pub ArePlain : List Term → Type 0
 ArePlain [] = Unit {0}
 ArePlain (t ∷ ts) = IsPlain 0 t × ArePlain ts
+
+-- one Int in range
+abbrev pub IsOneInt : List Value → Type 0
+IsOneInt (num x ∷ []) = fits x ≡ true
+IsOneInt _ = ⊥
+
+-- one Int on one channel
+abbrev pub IsIntAction : Action → Type 0
+IsIntAction (p ∷ []) = IsOneInt p.values
+IsIntAction _ = ⊥

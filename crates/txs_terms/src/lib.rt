@@ -1,2 +1,17 @@
 //! Terms, actions, the rules of behaviour, and what may be observed after a trace.
 #![tactic(auto)]
+
+mod action;
+mod after;
+mod expr;
+mod offer;
+mod slots;
+mod term;
+mod tree;
+
+pub use action::{Action, Channels, Part};
+pub use after::{after_action, after_quiescence, first};
+pub use expr::{Expr, Exprs, copy_exprs};
+pub use offer::{Offer, Offers, Position, Positions, copy_offers};
+pub use slots::fill;
+pub use term::{Call, ChanTypes, Names, Term, Top, term_prefix, term_stop};

@@ -1,0 +1,78 @@
+-- The expressions, actions and terms that the program's types stand for.
+use Rattle.std.specs.Prelude.{ℕ, List, [], ◌∷◌, map}
+use Rattle.txs_values.specs.View.{values_of, value_of, ty_of}
+use Rattle.txs_terms.specs.declared.expr.Expr as rust_expr
+use Rattle.txs_terms.specs.declared.expr.Expr.TheVariants as expr
+use Rattle.txs_terms.specs.declared.offer.Position as rust_position
+use Rattle.txs_terms.specs.declared.offer.Position.TheVariants as position
+use Rattle.txs_terms.specs.declared.offer.Offer as rust_offer
+use Rattle.txs_terms.specs.declared.action.Part as rust_part
+use Rattle.txs_terms.specs.declared.action.Action as rust_action
+use Rattle.txs_terms.specs.declared.tree.Tree as rust_tree
+use Rattle.txs_terms.specs.declared.tree.Tree.TheOpen.{Tree-F}
+use Rattle.txs_terms.specs.declared.tree.Tree.TheFolds.{fold-Tree}
+use Rattle.txs_terms.specs.declared.term.Term as rust_term
+use Rattle.txs_terms.specs.declared.term.Top as rust_top
+use Rattle.txs_terms.specs.declared.term.Top.TheVariants as top
+use Rattle.txs_terms.specs.Expr.{Expr, val, slot}
+use Rattle.txs_terms.specs.Action.{Part, Action}
+use Rattle.txs_terms.specs.Term.{Position, give, take, Offer, Term, stop, exits, prefix, step, guard, choice, par, enable, disable, interrupt, hide, call, bind, machine, hit, miss}
+
+abbrev pub expr_of : rust_expr.Expr → Expr
+expr_of (expr.Value v) = val (value_of v)
+expr_of (expr.Slot i) = slot i
+
+abbrev pub exprs_of : List rust_expr.Expr → List Expr
+exprs_of es = map expr_of es
+
+abbrev pub position_of : rust_position.Position → Position
+position_of (position.Give e) = give (expr_of e)
+position_of (position.Take x) = take x
+
+abbrev pub offer_of : rust_offer.Offer → Offer
+offer_of o = record { channel = o.channel; positions = map position_of o.positions }
+
+abbrev pub offers_of : List rust_offer.Offer → List Offer
+offers_of os = map offer_of os
+
+abbrev pub part_of : rust_part.Part → Part
+part_of p = record { channel = p.channel; values = values_of p.values }
+
+abbrev pub action_of : rust_action.Action → Action
+action_of a = map part_of a.parts
+
+-- a prefix, which is an internal step where there is no offer
+abbrev pub prefix_by : List Offer → List Expr → Term → Term
+prefix_by [] gs t = step gs t
+prefix_by (o ∷ os) gs t = prefix (o ∷ os) gs t
+
+-- one level, with each term below already seen
+abbrev pub tree_step : Tree-F Term → Term
+tree_step Tree-F.Stop = stop
+tree_step (Tree-F.Prefix os gs t) = prefix_by (offers_of os) (exprs_of gs) t
+
+abbrev pub tree_of : rust_tree.Tree → Term
+tree_of = fold-Tree Term tree_step
+
+abbrev pub term_of : rust_term.Term → Term
+term_of t = tree_of t.tree
+
+abbrev pub terms_of : List rust_term.Term → List Term
+terms_of ts = map term_of ts
+
+abbrev pub top_of : rust_top.Top → Term
+top_of top.Stop = stop
+top_of (top.Exit es) = exits (exprs_of es)
+top_of (top.Prefix os gs t) = prefix_by (offers_of os) (exprs_of gs) (term_of t)
+top_of (top.Guard gs t) = guard (exprs_of gs) (term_of t)
+top_of (top.Choice a b) = choice (term_of a) (term_of b)
+top_of (top.Par gates a b) = par gates (term_of a) (term_of b)
+top_of (top.Enable a xs b) = enable (term_of a) xs (term_of b)
+top_of (top.Disable a b) = disable (term_of a) (term_of b)
+top_of (top.Interrupt a b) = interrupt (term_of a) (term_of b)
+top_of (top.Hide hs t) = hide (map (map ty_of) hs) (term_of t)
+top_of (top.Call c) = call c.process c.channels (exprs_of c.args)
+top_of (top.Let xs es t) = bind xs (exprs_of es) (term_of t)
+top_of (top.Automaton k q cs es) = machine k cs (exprs_of es) q
+top_of top.Hit = hit
+top_of top.Miss = miss

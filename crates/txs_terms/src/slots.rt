@@ -1,0 +1,109 @@
+ghost use Rattle.std.specs.Prelude.{◌≡◌, IfOk, map};
+ghost use Rattle.txs_values.specs.View.{values_of};
+ghost use Rattle.txs_terms.specs.Expr.{put, put_all, filled};
+ghost use Rattle.txs_terms.specs.Term.{put_position, put_offer, fill};
+ghost use Rattle.txs_terms.specs.View.{expr_of, exprs_of, position_of, offer_of, offers_of, tree_of, term_of};
+
+use crate::expr::{Expr, Exprs};
+use crate::offer::{Offer, Offers, Position, Positions};
+use crate::term::Term;
+use crate::tree::Tree;
+use sqlite_items::{Boxed, Items};
+use std::alloc::Global;
+use txs_values::{NoMemory, Value, Values, copy_value};
+
+fn fill_expr(alloc: Global, expr: &Expr, values: &[Value]) -> Result<Expr, NoMemory>
+    ensures { IfOk result (λ e. expr_of e ≡ put (filled (values_of values.now)) (expr_of expr.now)) }
+{
+    match expr {
+        Expr::Value(value) => Ok(Expr::Value(copy_value(alloc, value)?)),
+        Expr::Slot(slot) => fill_slot(alloc, *slot, values),
+    }
+}
+
+fn fill_slot(alloc: Global, slot: u32, values: &[Value]) -> Result<Expr, NoMemory>
+    ensures { IfOk result (λ e. expr_of e ≡ filled (values_of values.now) slot) }
+{
+    let place = slot as usize;
+    if place < values.len() {
+        Ok(Expr::Value(copy_value(alloc, &values[place])?))
+    } else {
+        Ok(Expr::Slot((place - values.len()) as u32))
+    }
+}
+
+fn fill_exprs(alloc: Global, exprs: &[Expr], values: &[Value]) -> Result<Exprs, NoMemory>
+    ensures { IfOk result (λ es. exprs_of es ≡ put_all (filled (values_of values.now)) (exprs_of exprs.now)) }
+{
+    let mut filled = Items::new(alloc);
+    for expr in exprs {
+        filled.push(fill_expr(alloc, expr, values)?)?;
+    }
+    Ok(filled)
+}
+
+fn fill_position(alloc: Global, position: &Position, values: &[Value]) -> Result<Position, NoMemory>
+    ensures { IfOk result (λ p. position_of p ≡ put_position (filled (values_of values.now)) (position_of position.now)) }
+{
+    match position {
+        Position::Give(expr) => Ok(Position::Give(fill_expr(alloc, expr, values)?)),
+        Position::Take(name) => Ok(Position::Take(name.copy(alloc)?)),
+    }
+}
+
+fn fill_positions(
+    alloc: Global,
+    positions: &[Position],
+    values: &[Value],
+) -> Result<Positions, NoMemory>
+    ensures { IfOk result (λ ps. map position_of ps ≡ map (put_position (filled (values_of values.now))) (map position_of positions.now)) }
+{
+    let mut filled = Items::new(alloc);
+    for position in positions {
+        filled.push(fill_position(alloc, position, values)?)?;
+    }
+    Ok(filled)
+}
+
+fn fill_offer(alloc: Global, offer: &Offer, values: &[Value]) -> Result<Offer, NoMemory>
+    ensures { IfOk result (λ o. offer_of o ≡ put_offer (filled (values_of values.now)) (offer_of offer.now)) }
+{
+    let positions = fill_positions(alloc, offer.positions.as_slice(), values)?;
+    Ok(Offer {
+        channel: offer.channel,
+        positions,
+    })
+}
+
+fn fill_offers(alloc: Global, offers: &[Offer], values: &[Value]) -> Result<Offers, NoMemory>
+    ensures { IfOk result (λ os. offers_of os ≡ map (put_offer (filled (values_of values.now))) (offers_of offers.now)) }
+{
+    let mut filled = Items::new(alloc);
+    for offer in offers {
+        filled.push(fill_offer(alloc, offer, values)?)?;
+    }
+    Ok(filled)
+}
+
+/// The tree with the values put for its first slots.
+pub fn fill_tree(alloc: Global, tree: &Tree, values: &[Value]) -> Result<Tree, NoMemory>
+    ensures { IfOk result (λ t. tree_of t ≡ fill (values_of values.now) (tree_of tree.now)) }
+{
+    match tree {
+        Tree::Stop => Ok(Tree::Stop),
+        Tree::Prefix(offers, guards, then) => {
+            let offers = fill_offers(alloc, offers.as_slice(), values)?;
+            let guards = fill_exprs(alloc, guards.as_slice(), values)?;
+            let then = fill_tree(alloc, then.get(), values)?;
+            Ok(Tree::Prefix(offers, guards, Boxed::new(alloc, then)?))
+        }
+    }
+}
+
+/// The term with the values put for its first slots; the slots after them are numbered anew from 0.
+pub fn fill(alloc: Global, term: &Term, values: &Values) -> Result<Term, NoMemory>
+    ensures { IfOk result (λ t. term_of t ≡ fill (values_of values.now) (term_of term.now)) }
+{
+    let tree = fill_tree(alloc, &term.tree, values.as_slice())?;
+    Ok(Term { tree })
+}

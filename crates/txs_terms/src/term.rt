@@ -1,0 +1,103 @@
+ghost use Rattle.std.specs.Prelude.{◌≡◌, IfOk};
+ghost use Rattle.txs_terms.specs.Term.{stop};
+ghost use Rattle.txs_terms.specs.View.{exprs_of, offers_of, prefix_by, term_of, top_of};
+
+use crate::action::Channels;
+use crate::expr::{Exprs, copy_exprs};
+use crate::offer::{Offers, copy_offers};
+use crate::tree::{Tree, copy_tree};
+use sqlite_items::{Boxed, Items};
+use std::alloc::Global;
+use txs_values::{NoMemory, Text, Types};
+
+/// The names of variables, in order.
+pub type Names = Items<Text>;
+
+/// The types on each hidden channel.
+pub type ChanTypes = Items<Types>;
+
+/// A process with its actual channels and arguments.
+#[derive(Debug, Drop)]
+pub struct Call {
+    pub process: u32,
+    pub channels: Channels,
+    pub args: Exprs,
+}
+
+/// A behaviour in which values stand for the variables that are known.
+#[derive(Debug, Drop)]
+pub struct Term {
+    pub(crate) tree: Tree,
+}
+
+/// The outermost form of a term. A prefix without offers is an internal step.
+#[derive(Debug, Drop)]
+pub enum Top {
+    Stop,
+    Exit(Exprs),
+    Prefix(Offers, Exprs, Term),
+    Guard(Exprs, Term),
+    Choice(Term, Term),
+    Par(Channels, Term, Term),
+    Enable(Term, Names, Term),
+    Disable(Term, Term),
+    Interrupt(Term, Term),
+    Hide(ChanTypes, Term),
+    Call(Call),
+    Let(Names, Exprs, Term),
+    Automaton {
+        automaton: u32,
+        state: u32,
+        channels: Channels,
+        args: Exprs,
+    },
+    Hit,
+    Miss,
+}
+
+/// The behaviour that does nothing.
+pub fn term_stop(_alloc: Global) -> Result<Term, NoMemory>
+    ensures { IfOk result (λ t. term_of t ≡ stop) }
+{
+    Ok(Term { tree: Tree::Stop })
+}
+
+/// What goes on after an offer is met where the guards hold, or after an internal step where there is no offer.
+pub fn term_prefix(
+    alloc: Global,
+    offers: Offers,
+    guards: Exprs,
+    then: Term,
+) -> Result<Term, NoMemory>
+    ensures { IfOk result (λ t. term_of t ≡ prefix_by (offers_of offers) (exprs_of guards) (term_of then)) }
+{
+    let Term { tree } = then;
+    let then = Boxed::new(alloc, tree)?;
+    Ok(Term {
+        tree: Tree::Prefix(offers, guards, then),
+    })
+}
+
+impl Term {
+    /// The outermost form, with the terms below it.
+    pub fn top(&self, alloc: Global) -> Result<Top, NoMemory>
+        ensures { IfOk result (λ top. top_of top ≡ term_of self.now) }
+    {
+        match &self.tree {
+            Tree::Stop => Ok(Top::Stop),
+            Tree::Prefix(offers, guards, then) => {
+                let offers = copy_offers(alloc, offers.as_slice())?;
+                let guards = copy_exprs(alloc, guards.as_slice())?;
+                let tree = copy_tree(alloc, then.get())?;
+                Ok(Top::Prefix(offers, guards, Term { tree }))
+            }
+        }
+    }
+
+    pub fn copy(&self, alloc: Global) -> Result<Term, NoMemory>
+        ensures { IfOk result (λ t. term_of t ≡ term_of self.now) }
+    {
+        let tree = copy_tree(alloc, &self.tree)?;
+        Ok(Term { tree })
+    }
+}
