@@ -1,0 +1,15 @@
+//! Files of models, and sessions on them.
+#![tactic(auto)]
+
+mod behaviour;
+
+
+mod load_fault;
+mod model;
+mod names;
+mod numbers;
+mod words;
+
+
+pub use load_fault::LoadFault;
+pub use model::Model;
