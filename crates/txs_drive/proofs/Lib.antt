@@ -1,2 +1,4 @@
 pub mod Tests
-pub mod Words
+pub mod Wording
+pub mod Digits
+pub mod Behaviours

@@ -1,5 +1,5 @@
 -- What is read of the words of a file.
-use Rattle.std.specs.Prelude.{◌≡◌, ℕ, ◌^◌, ℤ, pos, Bool, true, false, ◌&&◌, cond, nat_lt, nat_le, List, [], ◌∷◌, ◌++◌, codes, bytes_eq, Option, Some, None, Result, Ok, Err}
+use Rattle.std.specs.Prelude.{◌≡◌, ℕ, ◌^◌, ℤ, pos, Bool, true, false, ◌&&◌, cond, nat_lt, eqb, List, [], ◌∷◌, ◌++◌, codes, bytes_eq, Option, Some, None, Result, Ok, Err}
 use Rattle.std.specs.List.{list_all, list_any, AllByRecursion}
 use Rattle.std.specs.Str.Parse.{digits_value}
 use Rattle.txs_values.specs.Value.{num}
@@ -32,9 +32,12 @@ are_digits word = has_byte word && list_all is_digit word
 abbrev pub number_read : List ℕ → Option ℤ
 number_read word = cond (are_digits word && nat_lt (digits_value 10 word) (2 ^ 127)) (Some (pos (digits_value 10 word))) None
 
+abbrev pub nonzero : ℕ → Option ℕ
+nonzero port = cond (eqb port 0) None (Some port)
+
 -- the port of digits
 abbrev pub port_read : List ℕ → Option ℕ
-port_read word = cond (are_digits word && (nat_le 1 (digits_value 10 word) && nat_le (digits_value 10 word) 65535)) (Some (digits_value 10 word)) None
+port_read word = cond (are_digits word && nat_lt (digits_value 10 word) (2 ^ 16)) (nonzero (digits_value 10 word)) None
 
 abbrev pub name_read : List ℕ → Option (List ℕ)
 name_read word = cond (is_name word) (Some word) None

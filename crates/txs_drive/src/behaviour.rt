@@ -1,7 +1,7 @@
 ghost use Rattle.std.specs.Prelude.{◌≡◌, ◌+◌, ◌≤◌, ◌<◌, ◌^◌, ◌∷◌, [], ◌++◌, length, IfOk, OnOk, Some};
 ghost use Rattle.txs_drive.specs.Form;
 ghost use Rattle.txs_drive.specs.Form.{offer};
-ghost use Rattle.txs_drive.specs.Reading.{Reads, expr_read, position_read, binder, channel_read, step_read, stop_read, behaviour_read};
+ghost use Rattle.txs_drive.specs.Reading.{Reads, as_given, as_taken, name_read, expr_read, position_read, binder, channel_read, step_read, stop_read, behaviour_read};
 ghost use Rattle.txs_terms.specs.Term.{prefix};
 ghost use Rattle.txs_terms.specs.View;
 ghost use Rattle.txs_terms.specs.View.{expr_of, offers_of, term_of};
@@ -50,6 +50,25 @@ fn expr_of(word: &[u8], bound: &[Bytes]) -> Result<Expr, LoadFault>
     }
 }
 
+fn taken(alloc: Global, word: &[u8]) -> Result<Position, LoadFault>
+    ensures { Reads View.position_of result (as_taken (name_read word.now)) }
+{
+    match name_text(alloc, word) {
+        Ok(name) => Ok(Position::Take(name)),
+        Err(fault) => Err(fault),
+    }
+}
+
+fn given(word: &[u8], bound: &[Bytes]) -> Result<Position, LoadFault>
+    requires { length bound.now < 2 ^ 32 }
+    ensures { Reads View.position_of result (as_given (expr_read bound.now word.now)) }
+{
+    match expr_of(word, bound) {
+        Ok(expr) => Ok(Position::Give(expr)),
+        Err(fault) => Err(fault),
+    }
+}
+
 /// `? x` or `! e`, by the sign and the word behind it.
 fn position_of(
     alloc: Global,
@@ -61,17 +80,11 @@ fn position_of(
     ensures { Reads View.position_of result (position_read bound.now sign.now word.now) }
 {
     if sign == "?".as_bytes() {
-        return match name_text(alloc, word) {
-            Ok(name) => Ok(Position::Take(name)),
-            Err(fault) => Err(fault),
-        };
-    }
-    if sign != "!".as_bytes() {
-        return Err(LoadFault::Later);
-    }
-    match expr_of(word, bound) {
-        Ok(expr) => Ok(Position::Give(expr)),
-        Err(fault) => Err(fault),
+        taken(alloc, word)
+    } else if sign == "!".as_bytes() {
+        given(word, bound)
+    } else {
+        Err(LoadFault::Later)
     }
 }
 
@@ -139,7 +152,7 @@ fn prefix_of(
     bound: &mut Items<Bytes>,
 ) -> Result<Term, LoadFault>
     requires { length bound.old + length more.now + 1 < 2 ^ 32 }
-    ensures { Reads term_of result (step_read (channel_read channels.0.now channels.1.now name.now) (position_read bound.old sign.now word.now) (λ p. behaviour_read channels.0.now channels.1.now (bound.old ++ binder p ∷ []) more.now)) }
+    ensures { Reads term_of result (step_read (channel_read channels.entry.0.now channels.entry.1.now name.now) (position_read bound.old sign.now word.now) (λ p. behaviour_read channels.entry.0.now channels.entry.1.now (bound.old ++ binder p ∷ []) more.now)) }
 {
     match channel_of(channels.0, channels.1, name) {
         None => Err(LoadFault::Later),
@@ -165,7 +178,7 @@ fn behaviour_of(
     bound: &mut Items<Bytes>,
 ) -> Result<Term, LoadFault>
     requires { length bound.old + length words.now < 2 ^ 32 }
-    ensures { Reads term_of result (behaviour_read channels.0.now channels.1.now bound.old words.now) }
+    ensures { Reads term_of result (behaviour_read channels.entry.0.now channels.entry.1.now bound.old words.now) }
 {
     match words {
         [] => Err(LoadFault::Later),

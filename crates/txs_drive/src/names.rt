@@ -1,4 +1,5 @@
-ghost use Rattle.std.specs.Prelude.{◌≡◌};
+ghost use Rattle.std.specs.Prelude.{◌≡◌, map};
+ghost use Rattle.std.specs.List.{list_all};
 ghost use Rattle.txs_drive.specs.Form;
 ghost use Rattle.txs_drive.specs.Reading.{Reads, is_listed, name_read};
 ghost use Rattle.txs_values.specs.Spelling;
@@ -32,25 +33,37 @@ fn is_name_byte(byte: u8) -> bool
     is_letter(byte) || is_digit(byte) || byte == b'_'
 }
 
+fn are_name_bytes(bytes: &[u8]) -> bool
+    ensures { result ≡ list_all Spelling.is_name_byte bytes.now }
+{
+    bytes.iter().all(|byte| is_name_byte(*byte))
+}
+
 fn is_worded(word: &[u8]) -> bool
     ensures { result ≡ Form.is_worded word.now }
 {
     match word {
         [] => false,
-        [first, others @ ..] => is_letter(*first) && others.iter().all(|byte| is_name_byte(*byte)),
+        [first, others @ ..] => is_letter(*first) && are_name_bytes(others),
     }
+}
+
+fn is_listed(word: &[u8], words: &[&str]) -> bool
+    ensures { result ≡ is_listed word.now (map (λ w. w.now) words.now) }
+{
+    for listed in words {
+        if listed.as_bytes() == word {
+            return true;
+        }
+    }
+    false
 }
 
 /// Whether a word is no name though it is spelled as one.
 fn is_reserved(word: &[u8]) -> bool
     ensures { result ≡ is_listed word.now Form.reserved }
 {
-    for reserved in RESERVED {
-        if reserved.as_bytes() == word {
-            return true;
-        }
-    }
-    false
+    is_listed(word, &RESERVED)
 }
 
 /// Whether a word is a name.

@@ -1,14 +1,24 @@
-ghost use Rattle.std.specs.Prelude.{◌≡◌, true};
+ghost use Rattle.std.specs.Prelude.{◌≡◌};
 ghost use Rattle.std.specs.List.{list_all};
-ghost use Rattle.txs_drive.specs.Reading.{are_digits, number_read, port_read};
+ghost use Rattle.txs_drive.specs.Reading.{are_digits, nonzero, number_read, port_read};
+ghost use Rattle.txs_values.specs.Spelling;
 
 use crate::names::is_digit;
+
+fn all_digits(bytes: &[u8]) -> bool
+    ensures { result ≡ list_all Spelling.is_digit bytes.now }
+{
+    bytes.iter().all(|byte| is_digit(*byte))
+}
 
 /// Whether a word is digits.
 pub fn are_digits(word: &[u8]) -> bool
     ensures { result ≡ are_digits word.now }
 {
-    !word.is_empty() && word.iter().all(|byte| is_digit(*byte))
+    match word {
+        [] => false,
+        [_, ..] => all_digits(word),
+    }
 }
 
 /// The number that digits spell.
@@ -19,7 +29,10 @@ pub fn number_of(word: &[u8]) -> Option<i128>
         return None;
     }
     match std::str::from_utf8(word) {
-        Ok(text) => text.parse::<i128>().ok(),
+        Ok(text) => match text.parse::<i128>() {
+            Ok(number) => Some(number),
+            Err(_) => None,
+        },
         Err(_) => unreachable!(),
     }
 }
@@ -32,7 +45,16 @@ pub fn port_of(word: &[u8]) -> Option<u16>
         return None;
     }
     match std::str::from_utf8(word) {
-        Ok(text) => text.parse::<u16>().ok().filter(|port| *port != 0),
+        Ok(text) => match text.parse::<u16>() {
+            Ok(port) => nonzero(port),
+            Err(_) => None,
+        },
         Err(_) => unreachable!(),
     }
+}
+
+fn nonzero(port: u16) -> Option<u16>
+    ensures { result ≡ nonzero port }
+{
+    if port == 0 { None } else { Some(port) }
 }

@@ -16,7 +16,7 @@ fn is_gap(byte: u8) -> bool
 }
 
 /// Takes a byte: a gap ends the word under way.
-#[tactic(auto, using(crate::proofs::Words::wording))]
+#[tactic(auto, using(crate::proofs::Wording::wording))]
 fn add_byte(
     alloc: Global,
     words: &mut Items<Bytes>,
@@ -40,7 +40,7 @@ fn add_byte(
 }
 
 /// Takes the last word, if there is one.
-#[tactic(auto, using(crate::proofs::Words::wording))]
+#[tactic(auto, using(crate::proofs::Wording::wording))]
 fn add_last(words: &mut Items<Bytes>, word: Bytes) -> Result<(), NoMemory>
     requires { HasNoGap word }
     ensures { OnOk result (words.new ≡ words.old ++ words_of word) }

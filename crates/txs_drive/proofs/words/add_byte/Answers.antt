@@ -1,7 +1,7 @@
 use Rattle.std.proofs.Common.{◌≡◌, ◌<◌, ◌∙◌, [], length, arith, true, rules}
 use Rattle.std.proofs.lemmas.Grind.{common_steps}
 use Rattle.txs_drive.specs.Form.{is_gap}
-use Rattle.txs_drive.proofs.Words.{words-done}
+use Rattle.txs_drive.proofs.Wording.{words-done}
 use Rattle.txs_drive.proofs.words.add_byte.Goals as goal
 
 pub returns-clause-words : goal.returns-clause-words
