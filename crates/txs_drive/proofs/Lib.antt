@@ -2,3 +2,7 @@ pub mod Tests
 pub mod Wording
 pub mod Digits
 pub mod Behaviours
+pub mod Apart
+pub mod Texts
+pub mod Parts
+pub mod Files

@@ -1,5 +1,6 @@
 -- Tests that came out one way.
-use Rattle.std.proofs.Common.{◌≡◌, ◌⊎◌, inl, inr, ℕ, Bool, true, false, cond, ◌&&◌, List, refl, bytes_eq}
+use Rattle.std.proofs.Common.{◌≡◌, ◌⊎◌, inl, inr, ℕ, ◌≤◌, nat_le, arith, Bool, true, false, cond, not, ◌&&◌, List, refl, bytes_eq}
+use Rattle.std.proofs.lemmas.Bool.Decides.{nat_tests}
 use Rattle.std.proofs.lemmas.Slice.Eq.{bytes_eq-Decides}
 
 pub eq-bytes : (a b : List ℕ) → bytes_eq a b ≡ true → a ≡ b
@@ -32,3 +33,17 @@ yes false x y e = absurd (cc)
 pub no : {X : Type 0} (b : Bool) (x y : X) → b ≡ false → cond b x y ≡ y
 no true x y e = absurd (cc)
 no false x y e = refl
+
+pub not-false : (b : Bool) → false ≡ not b → b ≡ true
+not-false true e = refl
+not-false false e = absurd (cc)
+
+pub not-both : (b : Bool) → not b ≡ true → b ≡ true → ⊥
+not-both true e f = absurd (cc)
+not-both false e f = absurd (cc)
+
+pub le-true : (m n : ℕ) → m ≤ n → nat_le m n ≡ true
+le-true m n h = grind (arith, nat_tests)
+
+pub true-le : (m n : ℕ) → nat_le m n ≡ true → m ≤ n
+true-le m n h = grind (arith, nat_tests)

@@ -1,4 +1,4 @@
 pub mod Form
-
+pub mod File
 pub mod Reading
-
+pub mod Pieces

@@ -203,7 +203,12 @@ fn behaviour_of(
 }
 
 /// The behaviour of a model, over its input and its output channel.
-pub fn start_of(alloc: Global, input: &[u8], output: &[u8], words: &[Bytes]) -> Result<Term, LoadFault>
+pub fn start_of(
+    alloc: Global,
+    input: &[u8],
+    output: &[u8],
+    words: &[Bytes],
+) -> Result<Term, LoadFault>
     requires { length words.now ≤ 400 }
     ensures { Reads term_of result (behaviour_read input.now output.now [] words.now) }
 {

@@ -1,18 +1,55 @@
-ghost use Rattle.std.specs.Prelude.{◌≡◌, map};
+ghost use Rattle.std.specs.Prelude.{◌≡◌, map, IfOk};
 ghost use Rattle.std.specs.List.{list_all};
 ghost use Rattle.txs_drive.specs.Form;
+ghost use Rattle.txs_drive.specs.Form.{IsName};
 ghost use Rattle.txs_drive.specs.Reading.{Reads, is_listed, name_read};
 ghost use Rattle.txs_values.specs.Spelling;
 
 use crate::LoadFault;
 use std::alloc::Global;
-use txs_values::Text;
+use txs_values::{NoMemory, Text};
 
 const RESERVED: [&str; 40] = [
-    "TYPEDEF", "FUNCDEF", "CONSTDEF", "CHANDEF", "PROCDEF", "STAUTDEF", "MODELDEF", "PURPDEF", "CNECTDEF", "ENDDEF",
-    "CHAN", "IN", "OUT", "SYNC", "BEHAVIOUR", "STATE", "VAR", "INIT", "TRANS", "GOAL",
-    "CLIENTSOCK", "SERVERSOCK", "HOST", "PORT", "ENCODE", "DECODE", "STOP", "EXIT", "HIT", "MISS", "ISTEP",
-    "ACCEPT", "NI", "HIDE", "LET", "IF", "THEN", "ELSE", "FI", "QUIET",
+    "TYPEDEF",
+    "FUNCDEF",
+    "CONSTDEF",
+    "CHANDEF",
+    "PROCDEF",
+    "STAUTDEF",
+    "MODELDEF",
+    "PURPDEF",
+    "CNECTDEF",
+    "ENDDEF",
+    "CHAN",
+    "IN",
+    "OUT",
+    "SYNC",
+    "BEHAVIOUR",
+    "STATE",
+    "VAR",
+    "INIT",
+    "TRANS",
+    "GOAL",
+    "CLIENTSOCK",
+    "SERVERSOCK",
+    "HOST",
+    "PORT",
+    "ENCODE",
+    "DECODE",
+    "STOP",
+    "EXIT",
+    "HIT",
+    "MISS",
+    "ISTEP",
+    "ACCEPT",
+    "NI",
+    "HIDE",
+    "LET",
+    "IF",
+    "THEN",
+    "ELSE",
+    "FI",
+    "QUIET",
 ];
 
 fn is_letter(byte: u8) -> bool
@@ -73,6 +110,17 @@ pub fn is_name(word: &[u8]) -> bool
     is_worded(word) && !is_reserved(word)
 }
 
+/// A word that is a name, as a text.
+pub fn known_name(alloc: Global, word: &[u8]) -> Result<Text, NoMemory>
+    requires { IsName word.now }
+    ensures { IfOk result (λ name. name ≡ word.now) }
+{
+    match std::str::from_utf8(word) {
+        Ok(text) => Text::from_str(alloc, text),
+        Err(_) => unreachable!(),
+    }
+}
+
 /// A name as a text.
 pub fn name_text(alloc: Global, word: &[u8]) -> Result<Text, LoadFault>
     ensures { Reads (λ name. name) result (name_read word.now) }
@@ -80,8 +128,5 @@ pub fn name_text(alloc: Global, word: &[u8]) -> Result<Text, LoadFault>
     if !is_name(word) {
         return Err(LoadFault::Later);
     }
-    match std::str::from_utf8(word) {
-        Ok(text) => Ok(Text::from_str(alloc, text)?),
-        Err(_) => unreachable!(),
-    }
+    Ok(known_name(alloc, word)?)
 }
