@@ -190,6 +190,6 @@ unread bytes m h f =
     none-some q o e f = absurd (cc)
 
 pub later-file : (bytes : List ℕ) (r : Result Model LoadFault) → Reads parts_of r (words_read (words_of bytes)) → IsErrOf r Later → (m : Model) → IsFile bytes m → ⊥
-later-file bytes (Ok m) h e = absurd e
+later-file bytes (Ok m) h e m' f = absurd (cc)
 later-file bytes (Err Later) h e m f = unread bytes m h f
 later-file bytes (Err NoMemory) h e m f = absurd (cc)
