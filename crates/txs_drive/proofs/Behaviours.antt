@@ -11,7 +11,7 @@ use Rattle.txs_terms.specs.Term.{Position, give, take as taking, Term, stop, pre
 use Rattle.txs_terms.specs.Sets.{IsPlain}
 use Rattle.txs_drive.specs.Form.{has_byte, is_worded, is_name, IsName, slot_from, slot_of, IsChannel, IsNumber, offer, Spells, stops, takes, gives_number, gives_variable}
 use Rattle.txs_drive.specs.Reading.{are_digits, number_read, name_read, as_number, as_slot, as_taken, as_given, expr_read, position_read, binder, channel_read, prefixed, step_read, stop_read, behaviour_read}
-use Rattle.txs_drive.proofs.Digits.{digits-numeral}
+use Rattle.txs_drive.proofs.Digits.{digits-here, digits-numeral}
 use Rattle.txs_drive.proofs.Tests.{by-test, and-both, both-and, eq-bytes, bytes-eq, ne-bytes, yes, no}
 
 -- what is read of four words and more
@@ -154,10 +154,6 @@ worded-no-digits (b ∷ bs) h = let p = and-both (is_letter b) (list_all is_name
 
 name-no-digits : (w : List ℕ) → IsName w → are_digits w ≡ false
 name-no-digits w h = worded-no-digits w (and-both (is_worded w) _ h).0
-
-digits-here : (w : List ℕ) → list_all is_digit w ≡ true → 0 < length w → are_digits w ≡ true
-digits-here [] h k = absurd (omega arith)
-digits-here (b ∷ bs) h k = h
 
 number-read : (w : List ℕ) (n : ℤ) → IsNumber w n → (are_digits w ≡ true) × (number_read w ≡ Some n)
 number-read w n h =

@@ -58,6 +58,10 @@ pub digits-numeral : (w : List ℕ) → are_digits w ≡ true → IsNumeral 10 w
 digits-numeral [] h = absurd (cc)
 digits-numeral (b ∷ bs) h = (omega arith, all_digits-numeral (b ∷ bs) h)
 
+pub digits-here : (w : List ℕ) → list_all is_digit w ≡ true → 0 < length w → are_digits w ≡ true
+digits-here [] h k = absurd (omega arith)
+digits-here (b ∷ bs) h k = h
+
 numerals : IsNumeralModel (AllDigits 10) (digits_value 10)
 numerals = numerals_by_value (AllDigits 10) tells_digits
 

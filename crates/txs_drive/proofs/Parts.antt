@@ -11,7 +11,7 @@ use Rattle.txs_drive.specs.Form.{has_byte, is_name, IsName}
 use Rattle.txs_drive.specs.Pieces.{Pieces, unquoted, host_read, same_port, are_named}
 use Rattle.txs_drive.specs.Reading.{are_digits, nonzero, port_read}
 use Rattle.txs_drive.proofs.Apart.{take-before, drop-before}
-use Rattle.txs_drive.proofs.Digits.{digits-numeral}
+use Rattle.txs_drive.proofs.Digits.{digits-here, digits-numeral}
 use Rattle.txs_drive.proofs.Tests.{by-test, le-true, true-le, and-both, both-and, eq-bytes, bytes-eq, yes, no}
 use Rattle.txs_drive.proofs.Texts.{quoted-text}
 
@@ -70,10 +70,6 @@ port-spelled w n h = elim (by-test (are_digits w && nat_lt (digits_value 10 w) (
       ((and-both (has_byte w) (list_all is_digit w) p.0).1, digits-numeral w p.0, z.0, z.1, most)
   | inr d ↦ absurd (cc)
 ]
-
-digits-here : (w : List ℕ) → list_all is_digit w ≡ true → 0 < length w → are_digits w ≡ true
-digits-here [] h k = absurd (omega arith)
-digits-here (b ∷ bs) h k = h
 
 not-zero : (n : ℕ) → 1 ≤ n → eqb n 0 ≡ false
 not-zero n h = grind (arith, nat_tests)

@@ -164,3 +164,6 @@ pub fn run_load(alloc: Global, bytes: &[u8]) -> Result<Model, LoadFault>
         Err(_) => Err(LoadFault::Later),
     }
 }
+
+#[cfg(test)]
+mod tests;
