@@ -1,9 +1,9 @@
 -- The words of a file are those of its pieces, and of no others.
-use Rattle.std.proofs.Common.{◌≡◌, ◌⊎◌, inl, inr, ℕ, zero, suc, ◌+◌, ◌-◌, ◌<◌, ◌≤◌, Bool, true, false, cond, ◌&&◌, nat_le, List, [], ◌∷◌, ◌++◌, length, take, drop, append_assoc, length-append, Option, Some, None, refl, sym, ◌∙◌, ap, subst, arith, bytes_eq, Decides}
+use Rattle.std.proofs.Common.{◌≡◌, inl, inr, ℕ, ◌-◌, ◌≤◌, true, false, cond, ◌&&◌, nat_le, List, [], ◌∷◌, ◌++◌, length, take, drop, append_assoc, length-append, Option, Some, None, refl, sym, ◌∙◌, ap, arith, bytes_eq}
 use Rattle.std.proofs.Math.Seq.{take-append_seam, drop-append_seam}
 use Rattle.std.proofs.lemmas.List.{take-append-drop}
 use Rattle.txs_drive.specs.Pieces.{Pieces, are_same, front_words, out_words, in_words, assembled, placed, kept, taken_apart}
-use Rattle.txs_drive.proofs.Tests.{by-test, le-true, true-le, and-both, both-and, eq-bytes, bytes-eq, yes, no}
+use Rattle.txs_drive.proofs.Tests.{by-test, le-true, and-both, both-and, eq-bytes, bytes-eq, yes, no}
 
 pub same-eq : (ws xs : List (List ℕ)) → are_same ws xs ≡ true → ws ≡ xs
 same-eq [] [] h = refl

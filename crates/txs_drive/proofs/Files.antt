@@ -1,6 +1,6 @@
 -- What is read of the bytes of a file is the model that it states.
-use Rattle.std.proofs.Common.{◌≡◌, ◌≢◌, ◌⊎◌, inl, inr, ℕ, ◌≤◌, Bool, true, false, cond, not, ◌&&◌, nat_le, List, [], ◌∷◌, ◌++◌, length, Option, Some, None, Result, Ok, Err, IfOk, IsErrOf, refl, sym, ◌∙◌, ap, subst, bytes_eq, Decides}
-use Rattle.std.specs.List.{AllByRecursion, list_all}
+use Rattle.std.proofs.Common.{◌≡◌, ◌≢◌, inl, inr, ℕ, ◌≤◌, true, not, nat_le, List, [], ◌++◌, length, Option, Some, None, Result, Ok, Err, IfOk, IsErrOf, refl, ◌∙◌, ap, subst, bytes_eq}
+use Rattle.std.specs.List.{AllByRecursion}
 use Rattle.std.specs.Str.{IsUtf8}
 use Rattle.txs_terms.specs.Term.{Term}
 use Rattle.txs_terms.specs.Sets.{IsPlain}
@@ -8,8 +8,8 @@ use Rattle.txs_terms.specs.View.{term_of}
 use Rattle.txs_drive.specs.declared.load_fault.LoadFault.{LoadFault}
 use Rattle.txs_drive.specs.declared.load_fault.LoadFault.TheVariants.{Later, NoMemory}
 use Rattle.txs_drive.specs.declared.model.Model.{Model}
-use Rattle.txs_drive.specs.File.{IsFile, quoted, is_host_byte, IsPort}
-use Rattle.txs_drive.specs.Form.{words_of, IsName, Spells}
+use Rattle.txs_drive.specs.File.{IsFile, quoted}
+use Rattle.txs_drive.specs.Form.{words_of}
 use Rattle.txs_drive.specs.Pieces.{Pieces, Parts, parts_of, assembled, out_words, in_words, taken_apart, host_read, same_port, are_named, is_in_form, joined, model_read, of_pieces, words_read}
 use Rattle.txs_drive.specs.Reading.{Reads, behaviour_read, port_read}
 use Rattle.txs_drive.proofs.Apart.{apart-assembled, assembled-apart}

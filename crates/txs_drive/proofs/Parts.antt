@@ -1,5 +1,5 @@
 -- What is read of hosts, ports and names is what they spell.
-use Rattle.std.proofs.Common.{◌≡◌, ◌≢◌, ◌⊎◌, inl, inr, ℕ, zero, suc, ◌+◌, ◌-◌, ◌<◌, ◌≤◌, ◌^◌, Bool, true, false, cond, not, ◌&&◌, eqb, eqb-true, eq-eqb, nat_lt, nat_le, List, [], ◌∷◌, ◌++◌, length, take, drop, append_assoc, length-append, Option, Some, None, refl, sym, ◌∙◌, ap, subst, arith, bytes_eq, codes, Decides}
+use Rattle.std.proofs.Common.{◌≡◌, inl, inr, ℕ, zero, suc, ◌-◌, ◌<◌, ◌≤◌, ◌^◌, true, false, ◌&&◌, eqb, eqb-true, eq-eqb, nat_lt, nat_le, List, [], ◌∷◌, ◌++◌, length, take, drop, length-append, Option, Some, None, refl, sym, ◌∙◌, ap, subst, arith, bytes_eq, codes}
 use Rattle.std.proofs.lemmas.Bool.Decides.{Decides-ltb, nat_tests}
 use Rattle.std.proofs.lemmas.List.{take-append-drop}
 use Rattle.std.specs.List.{list_all}
@@ -12,7 +12,7 @@ use Rattle.txs_drive.specs.Pieces.{Pieces, unquoted, host_read, same_port, are_n
 use Rattle.txs_drive.specs.Reading.{are_digits, nonzero, port_read}
 use Rattle.txs_drive.proofs.Apart.{take-before, drop-before}
 use Rattle.txs_drive.proofs.Digits.{digits-here, digits-numeral}
-use Rattle.txs_drive.proofs.Tests.{by-test, le-true, true-le, and-both, both-and, eq-bytes, bytes-eq, yes, no}
+use Rattle.txs_drive.proofs.Tests.{by-test, le-true, and-both, both-and, eq-bytes, yes, no}
 use Rattle.txs_drive.proofs.Texts.{quoted-text}
 
 -- ---- hosts

@@ -1,6 +1,5 @@
 -- The words of bytes, from their front.
-use Rattle.std.proofs.Common.{◌≡◌, ◌<◌, ℕ, Bool, true, false, cond, List, [], ◌∷◌, ◌++◌, length, filter, refl, sym, ◌∙◌, ap, subst, append_assoc, append-nil, arith}
-use Rattle.std.specs.List.{AllByRecursion}
+use Rattle.std.proofs.Common.{◌≡◌, ◌<◌, ℕ, Bool, true, false, cond, List, [], ◌∷◌, ◌++◌, length, filter, refl, sym, ◌∙◌, ap, append_assoc, arith}
 use Rattle.txs_drive.specs.Form.{is_gap, onto, parts, has_byte, words_of}
 use Rattle.txs_drive.specs.Reading.{HasNoGap}
 

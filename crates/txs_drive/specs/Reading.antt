@@ -1,5 +1,5 @@
 -- What is read of the words of a file.
-use Rattle.std.specs.Prelude.{◌≡◌, ℕ, ◌^◌, ℤ, pos, Bool, true, false, ◌&&◌, cond, nat_lt, eqb, List, [], ◌∷◌, ◌++◌, codes, bytes_eq, Option, Some, None, Result, Ok, Err}
+use Rattle.std.specs.Prelude.{◌≡◌, ℕ, ◌^◌, ℤ, pos, Bool, false, ◌&&◌, cond, nat_lt, eqb, List, [], ◌∷◌, ◌++◌, codes, bytes_eq, Option, Some, None, Result, Ok, Err}
 use Rattle.std.specs.List.{list_all, list_any, AllByRecursion}
 use Rattle.std.specs.Str.Parse.{digits_value}
 use Rattle.txs_values.specs.Value.{num}

@@ -1,7 +1,7 @@
-use Rattle.std.proofs.Common.{◌≡◌, ◌∙◌, bytes_eq, sym, subst, length, List, ℕ, codes, Option, rules, drop, take, refl, ◌-◌}
+use Rattle.std.proofs.Common.{◌≡◌, ◌∙◌, bytes_eq, sym, subst, length, codes, Option, drop, take, refl, ◌-◌}
 use Rattle.txs_terms.specs.Term.{Term}
 use Rattle.txs_terms.specs.View.{term_of}
-use Rattle.txs_drive.specs.Reading.{Reads, behaviour_read}
+use Rattle.txs_drive.specs.Reading.{Reads}
 use Rattle.txs_drive.proofs.Behaviours.{behaviour-step}
 use Rattle.txs_drive.proofs.Tests.{eq-bytes, not-false}
 use Rattle.txs_drive.proofs.behaviour.+behaviour.Goals as goal

@@ -1,4 +1,4 @@
-use Rattle.std.proofs.Common.{sym, ◌∙◌, ap}
+use Rattle.std.proofs.Common.{sym, ◌∙◌}
 use Rattle.txs_drive.proofs.Apart.{kept-is, kept-not}
 use Rattle.txs_drive.specs.Pieces.{pieces_of}
 use Rattle.txs_drive.proofs.form.kept.Goals as goal

@@ -1,4 +1,4 @@
-use Rattle.std.proofs.Common.{List, ℕ, IsErrOf, sym, subst}
+use Rattle.std.proofs.Common.{List, ℕ, sym, subst}
 use Rattle.txs_drive.specs.File.{IsFile}
 use Rattle.txs_drive.proofs.load.run_load.Goals as goal
 

@@ -1,4 +1,4 @@
-use Rattle.std.proofs.Common.{◌≡◌, ap, subst, List, ℕ, sym, ◌∙◌}
+use Rattle.std.proofs.Common.{ap, sym, ◌∙◌}
 use Rattle.txs_drive.proofs.Digits.{parse-number, parsed, digits-utf8}
 use Rattle.txs_drive.proofs.numbers.number_of.Goals as goal
 

@@ -1,4 +1,4 @@
-use Rattle.std.proofs.Common.{◌≡◌, ap, subst, List, ℕ, sym, ◌∙◌}
+use Rattle.std.proofs.Common.{sym, ◌∙◌}
 use Rattle.txs_drive.proofs.Digits.{parse-none, digits-utf8}
 use Rattle.txs_drive.proofs.numbers.port_of.Goals as goal
 

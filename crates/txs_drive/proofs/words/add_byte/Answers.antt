@@ -1,4 +1,4 @@
-use Rattle.std.proofs.Common.{◌≡◌, ◌<◌, ◌∙◌, [], length, arith, true, rules}
+use Rattle.std.proofs.Common.{◌≡◌, ◌<◌, ◌∙◌, length, arith, true}
 use Rattle.std.proofs.lemmas.Grind.{common_steps}
 use Rattle.txs_drive.specs.Form.{is_gap}
 use Rattle.txs_drive.proofs.Wording.{words-done}
