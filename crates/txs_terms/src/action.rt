@@ -1,7 +1,7 @@
 ghost use Rattle.std.specs.Prelude.{◌≡◌, [], ◌∷◌, IfOk, List, map};
 ghost use Rattle.txs_values.specs.Value.{Table, num};
 ghost use Rattle.txs_terms.specs.Action.{IsAction, Scope};
-ghost use Rattle.txs_terms.specs.Sets.{IsInt};
+ghost use Rattle.txs_terms.specs.Sets.{IsInt, IsIntAction};
 ghost use Rattle.txs_terms.specs.View.{action_of, part_of};
 
 use sqlite_items::Items;
@@ -62,6 +62,7 @@ impl Action {
     /// A number on one channel.
     pub fn on(alloc: Global, channel: u32, value: i128) -> Result<Action, NoMemory>
         ensures parts { IfOk result (λ a. action_of a ≡ record { channel = channel; values = num value ∷ [] } ∷ []) }
+        ensures int { IfOk result (λ a. IsIntAction (action_of a)) }
         ensures action { IfOk result (λ a. (table : Table) (scope : Scope) → IsInt scope channel → IsAction table scope (action_of a)) }
     {
         let parts = number_on(alloc, channel, value)?;

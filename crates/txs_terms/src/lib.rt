@@ -2,6 +2,7 @@
 #![tactic(auto)]
 
 mod action;
+mod after;
 mod expr;
 mod offer;
 mod slots;
@@ -9,6 +10,7 @@ mod term;
 mod tree;
 
 pub use action::{Action, Channels, Part};
+pub use after::{after_action, after_quiescence, first};
 pub use expr::{Expr, Exprs, copy_exprs};
 pub use offer::{Offer, Offers, Position, Positions, copy_offers};
 pub use slots::fill;
