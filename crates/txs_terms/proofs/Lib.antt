@@ -1,2 +1,7 @@
 pub mod Views
 pub mod Actions
+pub mod Prefixes
+pub mod MoveLaws
+pub mod QuietLaws
+pub mod SetLaws
+pub mod PlainLaws

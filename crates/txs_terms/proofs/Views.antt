@@ -1,10 +1,11 @@
 -- Slots of the program's values.
-use Rattle.std.proofs.Common.{◌≡◌, ℕ, zero, suc, ◌-◌, ◌<◌, ◌≤◌, List, [], ◌∷◌, map, length, get_or, refl, sym, ap, ◌∙◌, arith}
+use Rattle.std.proofs.Common.{◌≡◌, ℕ, zero, suc, ◌-◌, ◌<◌, ◌≤◌, List, [], ◌∷◌, length, get_or, ap, ◌∙◌, arith}
 use Rattle.txs_values.specs.declared.value.Value as rust
 use Rattle.txs_values.specs.View.{value_of, values_of}
-use Rattle.txs_terms.specs.Expr.{Expr, val, slot, filled}
+use Rattle.txs_terms.specs.Expr.{val, slot, filled}
 
-pub filled_at : (vs : List rust.Value) (i : ℕ) (v : rust.Value) → i < length vs → v ≡ get_or vs i v → val (value_of v) ≡ filled (values_of vs) i
+pub filled_at : (vs : List rust.Value) (i : ℕ) (v : rust.Value) → i < length vs → v ≡ get_or vs i v
+    → val (value_of v) ≡ filled (values_of vs) i
 filled_at [] i v h e = absurd (omega arith)
 filled_at (w ∷ vs) zero v h e = ap (λ x. val (value_of x)) e
 filled_at (w ∷ vs) (suc i) v h e = filled_at vs i v (let k : i < length vs = omega arith in k) e

@@ -1,9 +1,9 @@
 -- The terms that plain terms lead to, as lists.
-use Rattle.std.specs.Prelude.{ℕ, Bool, true, false, not, cond, eqb, List, [], ◌∷◌, ◌++◌}
+use Rattle.std.specs.Prelude.{ℕ, Bool, true, false, cond, eqb, List, [], ◌∷◌, ◌++◌}
 use Rattle.std.specs.Ordering.{int_eq}
-use Rattle.txs_values.specs.Value.{Value, num, bool, text, cons}
+use Rattle.txs_values.specs.Value.{Value, num}
 use Rattle.txs_terms.specs.Expr.{Expr, val}
-use Rattle.txs_terms.specs.Action.{Part, Action}
+use Rattle.txs_terms.specs.Action.{Action}
 use Rattle.txs_terms.specs.Term.{Position, give, take, Offer, Term, prefix, fill}
 
 abbrev pub is_number : Expr → Value → Bool

@@ -1,6 +1,6 @@
 -- What a term may do.
 use Rattle.std.specs.Prelude.{◌≡◌, ◌⊎◌, ℕ, true, false, ltb, List, [], ◌∷◌, ◌++◌, map, length, Some, slice_get}
-use Rattle.txs_values.specs.Value.{Value, Ty}
+use Rattle.txs_values.specs.Value.{Value}
 use Rattle.txs_terms.specs.Expr.{Expr, put, put_all, filled}
 use Rattle.txs_terms.specs.Eval.{Defs, Gives, Hold}
 use Rattle.txs_terms.specs.Action.{Action, Label, act, inner, ends, Channels, channels, values_on, values_over, part_of, none_in, kept, union, is_empty, joins, Scope, IsAction}

@@ -1,6 +1,6 @@
 -- Sets of terms that are the terms after a trace, member for member.
 use Rattle.std.specs.Prelude.{◌≡◌, ◌↔◌, ℕ, ◌+◌, true, nat_lt, List, [], ◌∷◌}
-use Rattle.txs_values.specs.Value.{Ty, whole, Value, num, fits}
+use Rattle.txs_values.specs.Value.{whole, Value, num, fits}
 use Rattle.txs_terms.specs.Expr.{Expr, val, slot}
 use Rattle.txs_terms.specs.Action.{Action, act, Scope, types_on}
 use Rattle.txs_terms.specs.Term.{Position, give, take, Offer, Term, stop, prefix}

@@ -1,5 +1,5 @@
 -- The expressions, actions and terms that the program's types stand for.
-use Rattle.std.specs.Prelude.{ℕ, List, [], ◌∷◌, map}
+use Rattle.std.specs.Prelude.{List, [], ◌∷◌, map}
 use Rattle.txs_values.specs.View.{values_of, value_of, ty_of}
 use Rattle.txs_terms.specs.declared.expr.Expr as rust_expr
 use Rattle.txs_terms.specs.declared.expr.Expr.TheVariants as expr

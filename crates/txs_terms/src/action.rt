@@ -49,7 +49,8 @@ fn copy_parts(alloc: Global, parts: &[Part]) -> Result<Items<Part>, NoMemory>
 }
 
 fn number_on(alloc: Global, channel: u32, value: i128) -> Result<Items<Part>, NoMemory>
-    ensures { IfOk result (λ ps. map part_of ps ≡ record { channel = channel; values = num value ∷ [] } ∷ []) }
+    ensures { IfOk result (λ ps. map part_of ps
+        ≡ record { channel = channel; values = num value ∷ [] } ∷ []) }
 {
     let mut values = Items::new(alloc);
     values.push(Value::Int(value))?;
@@ -61,9 +62,11 @@ fn number_on(alloc: Global, channel: u32, value: i128) -> Result<Items<Part>, No
 impl Action {
     /// A number on one channel.
     pub fn on(alloc: Global, channel: u32, value: i128) -> Result<Action, NoMemory>
-        ensures parts { IfOk result (λ a. action_of a ≡ record { channel = channel; values = num value ∷ [] } ∷ []) }
+        ensures parts { IfOk result (λ a. action_of a
+            ≡ record { channel = channel; values = num value ∷ [] } ∷ []) }
         ensures int { IfOk result (λ a. IsIntAction (action_of a)) }
-        ensures action { IfOk result (λ a. (table : Table) (scope : Scope) → IsInt scope channel → IsAction table scope (action_of a)) }
+        ensures action { IfOk result (λ a. (table : Table) (scope : Scope)
+            → IsInt scope channel → IsAction table scope (action_of a)) }
     {
         let parts = number_on(alloc, channel, value)?;
         Ok(Action { parts })

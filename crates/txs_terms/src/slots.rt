@@ -13,7 +13,8 @@ use std::alloc::Global;
 use txs_values::{NoMemory, Value, Values, copy_value};
 
 fn fill_expr(alloc: Global, expr: &Expr, values: &[Value]) -> Result<Expr, NoMemory>
-    ensures { IfOk result (λ e. expr_of e ≡ put (filled (values_of values.now)) (expr_of expr.now)) }
+    ensures { IfOk result (λ e. expr_of e
+        ≡ put (filled (values_of values.now)) (expr_of expr.now)) }
 {
     match expr {
         Expr::Value(value) => Ok(Expr::Value(copy_value(alloc, value)?)),
@@ -33,7 +34,8 @@ fn fill_slot(alloc: Global, slot: u32, values: &[Value]) -> Result<Expr, NoMemor
 }
 
 fn fill_exprs(alloc: Global, exprs: &[Expr], values: &[Value]) -> Result<Exprs, NoMemory>
-    ensures { IfOk result (λ es. exprs_of es ≡ put_all (filled (values_of values.now)) (exprs_of exprs.now)) }
+    ensures { IfOk result (λ es. exprs_of es
+        ≡ put_all (filled (values_of values.now)) (exprs_of exprs.now)) }
 {
     let mut filled = Items::new(alloc);
     for expr in exprs {
@@ -43,7 +45,8 @@ fn fill_exprs(alloc: Global, exprs: &[Expr], values: &[Value]) -> Result<Exprs, 
 }
 
 fn fill_position(alloc: Global, position: &Position, values: &[Value]) -> Result<Position, NoMemory>
-    ensures { IfOk result (λ p. position_of p ≡ put_position (filled (values_of values.now)) (position_of position.now)) }
+    ensures { IfOk result (λ p. position_of p
+        ≡ put_position (filled (values_of values.now)) (position_of position.now)) }
 {
     match position {
         Position::Give(expr) => Ok(Position::Give(fill_expr(alloc, expr, values)?)),
@@ -56,7 +59,8 @@ fn fill_positions(
     positions: &[Position],
     values: &[Value],
 ) -> Result<Positions, NoMemory>
-    ensures { IfOk result (λ ps. map position_of ps ≡ map (put_position (filled (values_of values.now))) (map position_of positions.now)) }
+    ensures { IfOk result (λ ps. map position_of ps
+        ≡ map (put_position (filled (values_of values.now))) (map position_of positions.now)) }
 {
     let mut filled = Items::new(alloc);
     for position in positions {
@@ -66,7 +70,8 @@ fn fill_positions(
 }
 
 fn fill_offer(alloc: Global, offer: &Offer, values: &[Value]) -> Result<Offer, NoMemory>
-    ensures { IfOk result (λ o. offer_of o ≡ put_offer (filled (values_of values.now)) (offer_of offer.now)) }
+    ensures { IfOk result (λ o. offer_of o
+        ≡ put_offer (filled (values_of values.now)) (offer_of offer.now)) }
 {
     let positions = fill_positions(alloc, offer.positions.as_slice(), values)?;
     Ok(Offer {
@@ -76,7 +81,8 @@ fn fill_offer(alloc: Global, offer: &Offer, values: &[Value]) -> Result<Offer, N
 }
 
 fn fill_offers(alloc: Global, offers: &[Offer], values: &[Value]) -> Result<Offers, NoMemory>
-    ensures { IfOk result (λ os. offers_of os ≡ map (put_offer (filled (values_of values.now))) (offers_of offers.now)) }
+    ensures { IfOk result (λ os. offers_of os
+        ≡ map (put_offer (filled (values_of values.now))) (offers_of offers.now)) }
 {
     let mut filled = Items::new(alloc);
     for offer in offers {

@@ -62,14 +62,15 @@ pub fn term_stop(_alloc: Global) -> Result<Term, NoMemory>
     Ok(Term { tree: Tree::Stop })
 }
 
-/// What goes on after an offer is met where the guards hold, or after an internal step where there is no offer.
+/// What goes on once the offers are met and the guards hold; without offers, after an internal step.
 pub fn term_prefix(
     alloc: Global,
     offers: Offers,
     guards: Exprs,
     then: Term,
 ) -> Result<Term, NoMemory>
-    ensures { IfOk result (λ t. term_of t ≡ prefix_by (offers_of offers) (exprs_of guards) (term_of then)) }
+    ensures { IfOk result (λ t. term_of t
+        ≡ prefix_by (offers_of offers) (exprs_of guards) (term_of then)) }
 {
     let Term { tree } = then;
     let then = Boxed::new(alloc, tree)?;

@@ -4,6 +4,12 @@ use Rattle.std.proofs.lemmas.Int.{to_z-of_z}
 use Rattle.txs_terms.proofs.Actions.{in_range_fits, int_action}
 use Rattle.txs_terms.proofs.action.Action.on.Goals as goal
 
+pub returns-clause-int : goal.returns-clause-int
+returns-clause-int c =
+    let fits : FitsSigned w128 c.args.value = c.ranges.value in
+    let is = simp to_z-of_z at c.in_ok-parts.ensures in
+    rw is (in_range_fits c.args.value fits)
+
 pub returns-clause-action : goal.returns-clause-action
 returns-clause-action c table scope h =
     let fits : FitsSigned w128 c.args.value = c.ranges.value in
