@@ -1,5 +1,13 @@
+pub mod Tests
+pub mod Wording
+pub mod Digits
+pub mod Behaviours
+pub mod Apart
+pub mod Texts
+pub mod Parts
+pub mod Files
 pub mod Sets
-pub mod Numbers
+pub mod Spelled
 pub mod Sessions
 pub mod Courses
 pub mod Calls

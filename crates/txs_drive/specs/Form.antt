@@ -1,10 +1,10 @@
 -- The form of a file that is read so far: one model over two channels of type Int, and one connection.
-use Rattle.std.specs.Prelude.{◌≡◌, ◌≢◌, ◌⊎◌, ℕ, suc, ◌≤◌, ◌<◌, ◌^◌, ℤ, pos, Bool, true, false, ◌&&◌, ◌||◌, not, eqb, cond, List, [], ◌∷◌, ◌++◌, length, filter, codes, bytes_eq, Option, Some, None, IsUtf8}
+use Rattle.std.specs.Prelude.{◌≡◌, ◌⊎◌, ℕ, suc, ◌<◌, ◌^◌, ℤ, pos, Bool, true, false, ◌&&◌, ◌||◌, not, eqb, cond, List, [], ◌∷◌, ◌++◌, filter, codes, bytes_eq, Option, Some, None}
 use Rattle.std.specs.List.{list_any, list_all}
 use Rattle.std.specs.Str.Parse.{IsNumeral, digits_value}
 use Rattle.txs_values.specs.Value.{num}
 use Rattle.txs_values.specs.Spelling.{is_letter, is_name_byte, is_digit}
-use Rattle.txs_terms.specs.Expr.{Expr, val, slot}
+use Rattle.txs_terms.specs.Expr.{val, slot}
 use Rattle.txs_terms.specs.Term.{Position, give, take, Offer, Term, stop, prefix}
 
 -- ---- words

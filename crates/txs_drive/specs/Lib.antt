@@ -1,5 +1,7 @@
 pub mod Form
 pub mod File
+pub mod Reading
+pub mod Pieces
 pub mod Parts
 pub mod Commands
 pub mod Lines
