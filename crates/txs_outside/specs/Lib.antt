@@ -1,0 +1,9 @@
+pub mod Causes
+pub mod Known
+pub mod Hanging
+pub mod Reading
+pub mod Calls
+pub mod Held
+pub mod Script
+pub mod Memory
+pub mod Edge
