@@ -1,6 +1,57 @@
 use crate::report::write_content;
 use crate::{Ending, run_cases};
+use sqlite_items::Items;
+use std::alloc::Global;
 use std::test::Fail;
+use txs_outside::{NamedFile, ScriptEntry, SureFiles, SureSink, SureSource, SureSut};
+use txs_top::top;
+use txs_values::{Bytes, Text};
+
+const MODEL: &str = "CHANDEF C ::= In , Out :: Int ENDDEF
+MODELDEF A ::= CHAN IN In CHAN OUT Out BEHAVIOUR In ? x >-> Out ! x >-> STOP ENDDEF
+CNECTDEF S ::= CLIENTSOCK
+  CHAN OUT In HOST \"h\" PORT 1 ENCODE In ? x -> ! toString ( x )
+  CHAN IN Out HOST \"h\" PORT 1 DECODE Out ! fromString ( s ) <- ? s
+ENDDEF
+";
+
+const COMMANDS: &str = "tester A S\ntest In!3\ntest\n";
+
+/// The status of a run over objects that never fail, with a system that says this.
+fn status_of(alloc: Global, answer: &str) -> Result<u8, Fail> {
+    let mut words = Vec::new(alloc);
+    words.push(String::from_str(alloc, "run")?)?;
+    words.push(String::from_str(alloc, "a")?)?;
+    let mut named = Items::new(alloc);
+    named.push(NamedFile {
+        name: Text::from_str(alloc, "a")?,
+        bytes: Bytes::from_slice(alloc, MODEL.as_bytes())?,
+    })?;
+    let mut script = Items::new(alloc);
+    let bytes = Bytes::from_slice(alloc, answer.as_bytes())?;
+    script.push(ScriptEntry::Piece { end: 0, bytes })?;
+    let mut files = SureFiles::new(named);
+    let mut source = SureSource::new(Bytes::from_slice(alloc, COMMANDS.as_bytes())?);
+    let mut sink = SureSink::new();
+    let mut sut = SureSut::new(script);
+    let status = top(
+        alloc,
+        words.as_slice(),
+        &mut files,
+        &mut source,
+        &mut sink,
+        &mut sut,
+    );
+    Ok(status.code)
+}
+
+#[test]
+fn objects_that_never_fail(rt: HostRuntime) -> Result<(), Fail> {
+    for (answer, code) in [("3\n", 0), ("4\n", 10), ("x\n", 0)] {
+        assert_eq!(rt; status_of(rt.alloc(), answer)?, code, "{answer:?}");
+    }
+    Ok(())
+}
 
 #[test]
 fn first_bad_line_is_told(rt: HostRuntime) -> Result<(), Fail> {
