@@ -5,7 +5,7 @@ use txs_outside::{NamedFiles, Numbers, Script};
 use txs_values::Bytes;
 
 /// What one call of `top` is given.
-#[derive(Debug, Drop)]
+#[derive(Drop)]
 pub struct Case {
     pub name: String,
     pub words: Vec<String>,
@@ -16,7 +16,7 @@ pub struct Case {
 }
 
 /// The numbers of the calls that fail.
-#[derive(Debug, Drop)]
+#[derive(Drop)]
 pub struct Fails {
     pub files: Numbers,
     pub source: Numbers,
@@ -25,7 +25,7 @@ pub struct Fails {
 }
 
 /// Reads a case file line by line.
-#[derive(Debug, Drop)]
+#[derive(Drop)]
 pub struct Reader {
     alloc: Global,
     draft: Option<Draft>,

@@ -8,7 +8,7 @@ use txs_outside::{NamedFile, NamedFiles, Numbers, Script, ScriptEntry};
 use txs_values::{Bytes, Text};
 
 /// Where content lines go.
-#[derive(Debug, Drop)]
+#[derive(Drop)]
 enum Content {
     Nowhere,
     File { name: Text, bytes: Bytes },
@@ -17,7 +17,7 @@ enum Content {
 }
 
 /// A case that is being read. What may stand once is `None` until it does.
-#[derive(Debug, Drop)]
+#[derive(Drop)]
 pub struct Draft {
     alloc: Global,
     name: String,

@@ -11,7 +11,7 @@ const BYTES: usize = 65_536;
 const CALLS: usize = 1_000;
 
 /// What came of a case.
-#[derive(Debug, Drop)]
+#[derive(Drop)]
 pub struct Outcome {
     pub name: String,
     pub status: Status,
