@@ -1,0 +1,46 @@
+//! The program: tests a system by a model.
+#![tactic(auto)]
+
+use std::process::ExitCode;
+use std::rt::Env;
+use std::{env, io};
+use txs_outside::{DiskFiles, ReaderSource, TcpSut, WriterSink};
+use txs_top::top;
+
+/// The status where memory runs out before the words are known.
+const NO_MEMORY: u8 = 5;
+
+/// The words of the command line behind the program's name. Where one is no text there are none,
+/// since such words fit no form.
+fn words_of(rt: &(impl Env + AllocGlobal)) -> io::Result<Vec<String>> {
+    let mut words = Vec::new(rt.alloc());
+    match env::args(rt) {
+        Ok(args) => {
+            for word in args.skip(1) {
+                words.push(word)?;
+            }
+        }
+        Err(error) if error.kind() == io::ErrorKind::InvalidData => {}
+        Err(error) => return Err(error),
+    }
+    Ok(words)
+}
+
+fn main(rt: HostRuntime) -> io::Result<ExitCode> {
+    let Ok(words) = words_of(&rt) else {
+        return Ok(ExitCode::from(NO_MEMORY));
+    };
+    let mut files = DiskFiles::new(rt.clone()?);
+    let mut source = ReaderSource::new(rt.stdin());
+    let mut sink = WriterSink::new(rt.stdout());
+    let mut sut = TcpSut::new(rt.alloc(), rt.clone()?);
+    let status = top(
+        rt.alloc(),
+        words.as_slice(),
+        &mut files,
+        &mut source,
+        &mut sink,
+        &mut sut,
+    );
+    Ok(ExitCode::from(status.code))
+}
