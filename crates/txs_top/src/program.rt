@@ -1,0 +1,118 @@
+ghost use Rattle.std.specs.Prelude.{◌≡◌, ◌⊎◌, ◌≢◌, ◌<◌, ◌≤◌, ◌∷◌, [], ℕ, List, Some, length, map, string_bytes, codes, IfOk};
+ghost use Rattle.txs_outside.specs.Causes.{Rose};
+ghost use Rattle.txs_outside.specs.Known.{Grows, Tells};
+ghost use Rattle.txs_drive.specs.File.{IsFile};
+ghost use Rattle.txs_top.specs.Top.{IsRun, IsNoForm, IsNoFile, Asked, Ran, RanFile, IsTooLong, IsLong};
+
+use std::alloc::Global;
+use txs_drive::{LoadFault, close, run_load, run_plain};
+use txs_outside::{Files, FilesFault, Sink, Source, Status, Sut};
+
+const USAGE: &str = "usage: txs run FILE\n";
+
+const REFUSED: &str = "REFUSED Later 0\n";
+
+/// Runs a file.
+fn run<F: Files, S: Source, K: Sink, U: Sut>(
+    alloc: Global,
+    file: &str,
+    files: &mut F,
+    source: &mut S,
+    sink: &mut K,
+    sut: &mut U,
+) -> Status
+    ensures headline { (result.code ≡ 0) ⊎ (result.code ≡ 10) → RanFile (F.contents files.old file.now)
+        (S.given source.old) (S.given source.new) (S.at_end source.new) (K.taken sink.old) (K.taken sink.new)
+        (U.calls sut.old) (U.calls sut.new) (U.hang_ups sut.old) (U.hang_ups sut.new) (U.faults sut.old) (U.faults sut.new) result.code }
+    ensures refused { (bytes : List ℕ) → F.contents files.old file.now ≡ Some bytes → length bytes ≤ 1048576 → IsNoFile bytes
+        → (result.code ≡ 2) ⊎ (result.code ≡ 4) ⊎ (result.code ≡ 5) ⊎ (result.code ≡ 3) × Rose (F.faults files.old) (F.faults files.new) }
+    ensures refused_only { result.code ≡ 2 → (bytes : List ℕ) × Tells (F.contents files.old file.now) bytes × IsNoFile bytes }
+    ensures refused_line { result.code ≡ 2 → Grows (K.taken sink.old) (K.taken sink.new) (codes "REFUSED Later 0\n") }
+    ensures refused_alone { result.code ≡ 2 → (source.new ≡ source.old) × (sut.new ≡ sut.old) }
+    ensures read { result.code ≡ 3 →
+        Rose (F.faults files.old) (F.faults files.new) × (source.new ≡ source.old) × (sink.new ≡ sink.old) × (sut.new ≡ sut.old)
+        ⊎ Rose (S.faults source.old) (S.faults source.new) × RanFile (F.contents files.old file.now)
+        (S.given source.old) (S.given source.new) (S.at_end source.new) (K.taken sink.old) (K.taken sink.new)
+        (U.calls sut.old) (U.calls sut.new) (U.hang_ups sut.old) (U.hang_ups sut.new) (U.faults sut.old) (U.faults sut.new) result.code }
+    ensures write { result.code ≡ 4 → Rose (K.faults sink.old) (K.faults sink.new) }
+    ensures limit { result.code ≡ 6 →
+        IsLong (F.contents files.old file.now) × (source.new ≡ source.old) × (sink.new ≡ sink.old) × (sut.new ≡ sut.old)
+        ⊎ RanFile (F.contents files.old file.now)
+        (S.given source.old) (S.given source.new) (S.at_end source.new) (K.taken sink.old) (K.taken sink.new)
+        (U.calls sut.old) (U.calls sut.new) (U.hang_ups sut.old) (U.hang_ups sut.new) (U.faults sut.old) (U.faults sut.new) result.code }
+    ensures file_limit { (bytes : List ℕ) → F.contents files.old file.now ≡ Some bytes → 1048576 < length bytes
+        → (result.code ≡ 6) ⊎ (result.code ≡ 5) ⊎ (result.code ≡ 3) × Rose (F.faults files.old) (F.faults files.new) }
+    ensures known { (result.code ≡ 0) ⊎ (result.code ≡ 10) ⊎ (result.code ≡ 2) ⊎ (result.code ≡ 3) ⊎ (result.code ≡ 4) ⊎ (result.code ≡ 5) ⊎ (result.code ≡ 6) }
+{
+    match files.read_all(alloc, file) {
+        Err(FilesFault::Failed) => Status { code: 3 },
+        Err(FilesFault::TooBig) => Status { code: 6 },
+        Err(FilesFault::NoMemory) => Status { code: 5 },
+        Ok(bytes) => match run_load(alloc, bytes.as_slice()) {
+            Err(LoadFault::Later) => close(sink, REFUSED, 2),
+            Err(LoadFault::NoMemory) => Status { code: 5 },
+            Ok(model) => run_plain(alloc, &model, source, sink, sut),
+        },
+    }
+}
+
+/// The program: words, file, acceptance, session, in this order. It writes to `sink` alone, and calls `sut` alone.
+///
+/// The statuses are 0 and 10 of a session, 1 for other words, 2 for a file that is refused, 3, 4 and 5 where the source
+/// or the files, the sink, or memory failed, and 6 past a limit of bytes.
+pub fn top<F: Files, S: Source, K: Sink, U: Sut>(
+    alloc: Global,
+    words: &[String],
+    files: &mut F,
+    source: &mut S,
+    sink: &mut K,
+    sut: &mut U,
+) -> Status
+    // A session's status: what it wrote and called, and the status, are those of the reference run of the file's model,
+    // for the commands that the source gave and what the system told.
+    ensures headline { (result.code ≡ 0) ⊎ (result.code ≡ 10) → Ran (map string_bytes words.now) (F.contents files.old)
+        (S.given source.old) (S.given source.new) (S.at_end source.new) (K.taken sink.old) (K.taken sink.new)
+        (U.calls sut.old) (U.calls sut.new) (U.hang_ups sut.old) (U.hang_ups sut.new) (U.faults sut.old) (U.faults sut.new) result.code }
+
+    // Status 1 stands exactly where the words fit no form; then the usage line is written and nothing else is done.
+    ensures usage { IsNoForm (map string_bytes words.now) → (result.code ≡ 1) ⊎ (result.code ≡ 4) }
+    ensures usage_only { result.code ≡ 1 → IsNoForm (map string_bytes words.now) }
+    ensures usage_line { result.code ≡ 1 → Grows (K.taken sink.old) (K.taken sink.new) (codes "usage: txs run FILE\n") }
+    ensures usage_alone { IsNoForm (map string_bytes words.now) → (files.new ≡ files.old) × (source.new ≡ source.old) × (sut.new ≡ sut.old) }
+
+    // Status 2 stands exactly where the file is not of the form; then the refusal is written and nothing else is done.
+    ensures refused { (file : List ℕ) (bytes : List ℕ) → IsRun (map string_bytes words.now) file → F.contents files.old file ≡ Some bytes → length bytes ≤ 1048576 → IsNoFile bytes
+        → (result.code ≡ 2) ⊎ (result.code ≡ 4) ⊎ (result.code ≡ 5) ⊎ (result.code ≡ 3) × Rose (F.faults files.old) (F.faults files.new) }
+    ensures refused_only { result.code ≡ 2 → (bytes : List ℕ) × Asked (map string_bytes words.now) (F.contents files.old) bytes × IsNoFile bytes }
+    ensures refused_line { result.code ≡ 2 → Grows (K.taken sink.old) (K.taken sink.new) (codes "REFUSED Later 0\n") }
+    ensures refused_alone { result.code ≡ 2 → (source.new ≡ source.old) × (sut.new ≡ sut.old) }
+
+    // Status 3 stands only where the count of the files or of the source rose.
+    ensures read { result.code ≡ 3 →
+        Rose (F.faults files.old) (F.faults files.new) × (source.new ≡ source.old) × (sink.new ≡ sink.old) × (sut.new ≡ sut.old)
+        ⊎ Rose (S.faults source.old) (S.faults source.new) × Ran (map string_bytes words.now) (F.contents files.old)
+        (S.given source.old) (S.given source.new) (S.at_end source.new) (K.taken sink.old) (K.taken sink.new)
+        (U.calls sut.old) (U.calls sut.new) (U.hang_ups sut.old) (U.hang_ups sut.new) (U.faults sut.old) (U.faults sut.new) result.code }
+
+    // Status 4 stands only where the sink's count rose.
+    ensures write { result.code ≡ 4 → Rose (K.faults sink.old) (K.faults sink.new) }
+
+    // Status 6 stands exactly where the file is too long, or a byte past the limit of commands was read.
+    ensures limit { result.code ≡ 6 →
+        IsTooLong (map string_bytes words.now) (F.contents files.old) × (source.new ≡ source.old) × (sink.new ≡ sink.old) × (sut.new ≡ sut.old)
+        ⊎ Ran (map string_bytes words.now) (F.contents files.old)
+        (S.given source.old) (S.given source.new) (S.at_end source.new) (K.taken sink.old) (K.taken sink.new)
+        (U.calls sut.old) (U.calls sut.new) (U.hang_ups sut.old) (U.hang_ups sut.new) (U.faults sut.old) (U.faults sut.new) result.code }
+    ensures file_limit { (file : List ℕ) (bytes : List ℕ) → IsRun (map string_bytes words.now) file → F.contents files.old file ≡ Some bytes → 1048576 < length bytes
+        → (result.code ≡ 6) ⊎ (result.code ≡ 5) ⊎ (result.code ≡ 3) × Rose (F.faults files.old) (F.faults files.new) }
+
+    // No other status is given.
+    ensures known { (result.code ≡ 0) ⊎ (result.code ≡ 10) ⊎ (result.code ≡ 1) ⊎ (result.code ≡ 2) ⊎ (result.code ≡ 3) ⊎ (result.code ≡ 4) ⊎ (result.code ≡ 5) ⊎ (result.code ≡ 6) }
+{
+    if let [word, file] = words
+        && word.as_str() == "run"
+    {
+        return run(alloc, file.as_str(), files, source, sink, sut);
+    }
+    close(sink, USAGE, 1)
+}
