@@ -1,21 +1,18 @@
 -- The calls on the system, over plain variables.
-use Rattle.std.proofs.Common.{◌≡◌, ◌≤◌, ◌<◌, ◌+◌, ◌⊎◌, inl, inr, ℕ, zero, suc, ℤ, Bool, true, false, cond, nat_lt, List, [], ◌∷◌, ◌++◌, Option, None, Some, Result, Ok, Err, is_ok, IsErr, OnOk, refl, arith, ap, subst, sym, ◌∙◌}
-use Rattle.txs_outside.specs.declared.sut.Heard.{Heard}
-use Rattle.txs_outside.specs.declared.sut.Heard.TheVariants as heard
+use Rattle.std.proofs.Common.{◌≡◌, ◌≤◌, ◌<◌, inl, inr, ℕ, ℤ, Bool, true, false, cond, nat_lt, List, [], ◌∷◌, ◌++◌, Option, None, Some, Result, Ok, Err, is_ok, IsErr, OnOk, refl, arith, subst, sym, ◌∙◌}
 use Rattle.txs_outside.specs.declared.sut.SutEntry.{SutEntry}
 use Rattle.txs_outside.specs.declared.sut.SutCall.TheVariants as call
 use Rattle.txs_outside.specs.Causes.{Rose}
 use Rattle.txs_outside.specs.Known.{Adds}
-use Rattle.txs_drive.specs.declared.doing.Doing.{Doing}
-use Rattle.txs_drive.specs.declared.doing.Doing.TheVariants.{Say, Dial, Wait, Send, HangUp, Idle, Quit}
+use Rattle.txs_drive.specs.declared.doing.Doing.TheVariants.{Dial, Wait, Send, HangUp, Idle}
 use Rattle.txs_drive.specs.declared.note.Seen.{Seen}
 use Rattle.txs_drive.specs.declared.sign.Sign.{Sign}
 use Rattle.txs_drive.specs.declared.sign.Sign.TheVariants as sign
 use Rattle.txs_drive.specs.declared.model.Model.{Model}
 use Rattle.txs_drive.specs.Lines.{sent_line}
-use Rattle.txs_drive.specs.Session.{Run, State, dial_told, send_told, sign_of, Heeds, Judges, hanging}
+use Rattle.txs_drive.specs.Session.{Run, State, dial_told, send_told, Heeds, Judges}
 use Rattle.txs_drive.specs.Ready.{ToldBy, HeedsBy, rank}
-use Rattle.txs_drive.specs.Course.{Event, dials, waits, sends, Leads, stays, dialling, waiting, sending, entry, ends_of}
+use Rattle.txs_drive.specs.Course.{dials, waits, sends, Leads, stays, dialling, waiting, sending, entry, ends_of}
 use Rattle.txs_drive.specs.Going.{Called, Waited}
 
 pub err_of : {A E : Type 0} (r : Result A E) → is_ok r ≡ false → IsErr r

@@ -1,7 +1,7 @@
 -- How courses of the reference run go together, and what comes of them.
-use Rattle.std.proofs.Common.{◌≡◌, ◌≤◌, ◌⊎◌, inl, inr, ℕ, ℤ, Bool, true, false, List, [], ◌∷◌, ◌++◌, Option, refl, arith, append_assoc, append-nil, ap, subst, sym, ◌∙◌}
+use Rattle.std.proofs.Common.{◌≡◌, ◌⊎◌, inl, inr, ℕ, Bool, true, false, List, [], ◌∷◌, ◌++◌, Option, refl, arith, append_assoc, append-nil, ap, subst, sym, ◌∙◌}
 use Rattle.txs_outside.specs.declared.sut.SutEntry.{SutEntry}
-use Rattle.txs_outside.specs.Causes.{Rose, Rose-before, Rose-after}
+use Rattle.txs_outside.specs.Causes.{Rose-before, Rose-after}
 use Rattle.txs_outside.specs.Known.{Grows, Adds, Grows-none, Grows-then, Adds-none, Adds-then}
 use Rattle.txs_drive.specs.declared.doing.Doing.{Doing}
 use Rattle.txs_drive.specs.declared.doing.Doing.TheVariants.{Say, HangUp, Idle, Quit}
@@ -10,7 +10,7 @@ use Rattle.txs_drive.specs.declared.note.Note.{Note}
 use Rattle.txs_drive.specs.Commands.{command_of}
 use Rattle.txs_drive.specs.Lines.{line_of}
 use Rattle.txs_drive.specs.Session.{State, Carries, done}
-use Rattle.txs_drive.specs.Course.{Event, reads, does', dials, waits, sends, Leads, stays, reading, doing, dialling, waiting, sending, asks_nothing, lines_in, notes_of, notes_in, text_of, hung_by, hung_after, calls_in, entry, AnyFailed}
+use Rattle.txs_drive.specs.Course.{Event, reads, does', dials, waits, sends, Leads, stays, reading, doing, dialling, waiting, sending, lines_in, notes_of, notes_in, text_of, hung_by, hung_after, calls_in, AnyFailed}
 use Rattle.txs_drive.specs.Going.{Went, Called, IsLeft}
 
 -- one course and then another

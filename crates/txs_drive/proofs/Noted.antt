@@ -1,5 +1,5 @@
 -- What the notes of a course say of it: FAIL of the flag that is kept, and LINK of a failed call.
-use Rattle.std.proofs.Common.{◌≡◌, ◌⊎◌, ◌+◌, inl, inr, ℕ, ℤ, Bool, true, false, ◌||◌, not, cond, eqb, nat_lt, List, [], ◌∷◌, ◌++◌, length, Option, None, Some, refl, ap, sym, ◌∙◌, subst}
+use Rattle.std.proofs.Common.{◌≡◌, ◌⊎◌, ◌+◌, inl, inr, ℕ, ℤ, Bool, true, false, ◌||◌, cond, eqb, nat_lt, List, [], ◌∷◌, ◌++◌, length, Option, None, Some, refl, ap, sym, ◌∙◌, subst}
 use Rattle.txs_outside.specs.declared.sut.Heard.{Heard}
 use Rattle.txs_outside.specs.declared.sut.Heard.TheVariants as heard
 use Rattle.txs_drive.specs.declared.model.Model.{Model}

@@ -1,5 +1,5 @@
 -- A session whose commands came to their end is one that the reference run has.
-use Rattle.std.proofs.Common.{◌≡◌, ◌≤◌, ℕ, Bool, List, [], ◌++◌, Option, Some, refl, sym, ◌∙◌, ap, append-nil, subst, arith}
+use Rattle.std.proofs.Common.{◌≡◌, ℕ, Bool, List, [], Option, Some, sym, ◌∙◌, ap, append-nil, subst, arith}
 use Rattle.txs_outside.specs.Causes.{Rose}
 use Rattle.txs_outside.specs.Known.{Adds, Adds-then}
 use Rattle.txs_outside.specs.declared.sut.SutEntry.{SutEntry}
@@ -7,7 +7,7 @@ use Rattle.txs_drive.specs.declared.model.Model.{Model}
 use Rattle.txs_drive.specs.declared.feed.Finish.{Finish}
 use Rattle.txs_drive.specs.Session.{State, first, dialled_of}
 use Rattle.txs_drive.specs.Course.{notes_in, has_fail, hung_after, calls_in}
-use Rattle.txs_drive.specs.Served.{Served, last_of, status_of}
+use Rattle.txs_drive.specs.Served.{Served, last_of}
 use Rattle.txs_drive.specs.Going.{Conversed, code_of}
 use Rattle.txs_drive.proofs.Courses.{hung_after-append}
 use Rattle.txs_drive.proofs.Noted.{failed_says, link_failed}

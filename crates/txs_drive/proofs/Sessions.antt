@@ -1,17 +1,16 @@
 -- What a session's calls come to, over plain variables.
-use Rattle.std.proofs.Common.{◌≡◌, ◌<◌, ◌↔◌, ◌+◌, ℕ, zero, suc, ℤ, true, false, nat_lt, List, [], ◌∷◌, ◌++◌, length, Option, None, Some, refl, ap, sym, ◌∙◌, subst, inl, inr, arith, cond}
+use Rattle.std.proofs.Common.{◌≡◌, ◌<◌, ◌↔◌, ◌+◌, ℕ, ℤ, true, nat_lt, List, [], ◌∷◌, ◌++◌, length, Option, None, Some, ap, sym, ◌∙◌, inl, inr, arith, cond}
 use Rattle.std.specs.Option.{option_map}
 use Rattle.std.proofs.lemmas.Bool.Decides.{nat_tests}
 use Rattle.txs_drive.specs.declared.run.Run as rust_run
 use Rattle.txs_drive.specs.declared.model.Model.{Model}
 use Rattle.txs_drive.specs.declared.doing.Doing.{Doing}
-use Rattle.txs_drive.specs.declared.doing.Doing.TheVariants.{Say, Dial, Wait, Send, HangUp, Idle, Quit}
-use Rattle.txs_drive.specs.declared.note.Note.{Note}
+use Rattle.txs_drive.specs.declared.doing.Doing.TheVariants.{Say, Send, HangUp, Idle}
 use Rattle.txs_drive.specs.declared.note.Note.TheVariants as note
 use Rattle.txs_drive.specs.declared.note.Ending.TheVariants.{Fail}
 use Rattle.txs_drive.specs.declared.note.Seen.{Seen}
 use Rattle.txs_drive.specs.declared.note.Seen.TheVariants as seen
-use Rattle.txs_drive.specs.Session.{Run, State, does, goes_on, seen_run, over_run, hanging, ends_with, seen_note, IfGoing, Stimulates, Judges}
+use Rattle.txs_drive.specs.Session.{Run, State, does, goes_on, seen_run, over_run, hanging, seen_note, IfGoing, Stimulates}
 use Rattle.txs_drive.specs.Ready.{run_of, IsGoing, AllowedNow, IsObserved, next_number, ToldBy, Judged, HeedsBy}
 use Rattle.txs_drive.specs.declared.sign.Sign.TheVariants as sign
 

@@ -1,12 +1,12 @@
 -- The two channels, and the sets after a trace over them.
-use Rattle.std.proofs.Common.{◌≡◌, ◌<◌, ◌↔◌, ℕ, zero, suc, ℤ, List, [], ◌∷◌, ◌++◌, map, refl, ap, subst, inl, arith}
+use Rattle.std.proofs.Common.{◌≡◌, ◌<◌, ◌↔◌, ℕ, zero, suc, List, [], ◌∷◌, ◌++◌, map, refl, ap, subst, arith}
 use Rattle.std.proofs.lemmas.List.{reverse-append}
 use Rattle.txs_drive.specs.declared.note.Seen.{Seen}
 use Rattle.txs_terms.specs.Term.{Term}
 use Rattle.txs_terms.specs.Action.{Action}
 use Rattle.txs_terms.specs.After.{Observable, acted}
 use Rattle.txs_terms.specs.Sets.{IsAfter, IsInt}
-use Rattle.txs_drive.specs.Allowed.{definitions, scope, sync, on, observable_of, latest_first}
+use Rattle.txs_drive.specs.Allowed.{definitions, scope, sync, observable_of, latest_first}
 
 -- each of the two channels has one position, of type Int
 pub int_channel : (c : ℕ) → c < 2 → IsInt scope c

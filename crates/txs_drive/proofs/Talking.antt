@@ -1,5 +1,5 @@
 -- What was read of a source, and what came of it.
-use Rattle.std.proofs.Common.{◌≡◌, ◌≤◌, ◌<◌, ◌+◌, ℕ, Bool, true, false, List, [], ◌∷◌, ◌++◌, Option, Some, length, refl, sym, ◌∙◌, ap, append_assoc, append-nil, subst, arith, length-append}
+use Rattle.std.proofs.Common.{◌≡◌, ◌≤◌, ◌<◌, ◌+◌, ℕ, Bool, true, false, List, [], ◌∷◌, ◌++◌, Option, length, refl, sym, ◌∙◌, ap, append-nil, subst, arith, length-append}
 use Rattle.txs_outside.specs.declared.sut.SutEntry.{SutEntry}
 use Rattle.txs_outside.specs.Known.{Grows, Grows-none, Grows-then}
 use Rattle.txs_drive.specs.declared.model.Model.{Model}
@@ -7,8 +7,8 @@ use Rattle.txs_drive.specs.declared.feed.Finish.{Finish}
 use Rattle.txs_drive.specs.declared.feed.Finish.TheVariants as finish
 use Rattle.txs_drive.specs.Session.{State, first}
 use Rattle.txs_drive.specs.Course.{Event, lines_in}
-use Rattle.txs_drive.specs.Served.{Ending, open', end, fault, limit, command_lines, last_part, Gave, Rests}
-use Rattle.txs_drive.specs.Going.{HasNoFeed, joined, Went, Took, TookSome, Ended, Conversed}
+use Rattle.txs_drive.specs.Served.{Ending, open', end, fault, limit, command_lines, last_part}
+use Rattle.txs_drive.specs.Going.{HasNoFeed, joined, Took, TookSome, Ended, Conversed}
 use Rattle.txs_drive.proofs.Courses.{went_then}
 use Rattle.txs_drive.proofs.Feeding.{took_part, took_then, commands_joined, commands_part}
 

@@ -1,5 +1,5 @@
 -- What the rules allow after a trace, for a model over two channels of type Int.
-use Rattle.std.specs.Prelude.{ℕ, ℤ, List, [], ◌∷◌, ◌++◌, map, reverse}
+use Rattle.std.specs.Prelude.{ℕ, ℤ, List, [], ◌∷◌, map, reverse}
 use Rattle.txs_values.specs.Value.{whole, num}
 use Rattle.txs_terms.specs.Action.{Action, Scope}
 use Rattle.txs_terms.specs.Term.{Term}

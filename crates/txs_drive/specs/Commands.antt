@@ -1,5 +1,5 @@
 -- The command of a line.
-use Rattle.std.specs.Prelude.{ℕ, ◌-◌, ℤ, Bool, ◌&&◌, List, [], ◌∷◌, length, take, cond, eqb, nat_lt, Option, Some, None, bytes_eq, codes, slice_index}
+use Rattle.std.specs.Prelude.{ℕ, ◌-◌, ℤ, ◌&&◌, List, [], ◌∷◌, length, take, cond, eqb, nat_lt, Option, Some, None, bytes_eq, codes, slice_index}
 use Rattle.txs_values.specs.Spelling.{read_text}
 use Rattle.txs_values.specs.Value.{Value, num, bool, text, cons, whole}
 use Rattle.txs_drive.specs.declared.command.Command.{Command}

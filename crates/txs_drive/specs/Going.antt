@@ -18,7 +18,7 @@ use Rattle.txs_outside.specs.declared.sut.Heard.TheVariants.{Failed}
 use Rattle.txs_outside.specs.declared.sut.SutCall.TheVariants as call
 use Rattle.txs_drive.specs.declared.sign.Sign.{Sign}
 use Rattle.txs_drive.specs.declared.session.Session as rust
-use Rattle.txs_drive.specs.Session.{State, Run, first, dialled_of, sign_of}
+use Rattle.txs_drive.specs.Session.{State, first, dialled_of, sign_of}
 use Rattle.txs_drive.specs.Ready.{IsBusy, IsTied, IsPlainRun, Keeps, state_of, rank}
 use Rattle.txs_drive.specs.Course.{Event, entry, does', Leads, lines_in, notes_in, text_of, hung_after, calls_in, AnyFailed}
 

@@ -1,5 +1,5 @@
 -- The lines of a transcript, and the line that is sent for an action.
-use Rattle.std.specs.Prelude.{ℕ, ℤ, Bool, true, false, List, [], ◌∷◌, ◌++◌, codes, decimal}
+use Rattle.std.specs.Prelude.{ℕ, ℤ, List, [], ◌++◌, codes, decimal}
 use Rattle.txs_values.specs.Value.{num}
 use Rattle.txs_values.specs.Text.{text_of}
 use Rattle.txs_drive.specs.declared.note.Note.{Note}

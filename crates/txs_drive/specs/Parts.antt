@@ -1,5 +1,5 @@
 -- Parts of a command line.
-use Rattle.std.specs.Prelude.{ℕ, ◌+◌, List, [], ◌∷◌, take, drop, reverse, Option, Some, None, position, eqb}
+use Rattle.std.specs.Prelude.{ℕ, ◌+◌, List, [], take, drop, reverse, Option, Some, None, position, eqb}
 use Rattle.txs_values.specs.Spelling.{is_blank, past_blanks}
 
 -- the bytes without the blanks at both ends

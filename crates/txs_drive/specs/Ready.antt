@@ -1,5 +1,5 @@
 -- What a session of the code keeps between its calls.
-use Rattle.std.specs.Prelude.{◌≡◌, ◌⊎◌, ℕ, ◌+◌, ◌<◌, ◌≤◌, Bool, true, false, List, [], ◌∷◌, ◌++◌, length, Option, Some, None}
+use Rattle.std.specs.Prelude.{◌≡◌, ◌⊎◌, ℕ, ◌+◌, ◌<◌, Bool, true, false, List, [], ◌∷◌, ◌++◌, length, Option, Some, None}
 use Rattle.std.specs.Option.{option_map}
 use Rattle.txs_terms.specs.Sets.{IsAfter, ArePlain}
 use Rattle.txs_terms.specs.View.{term_of, terms_of}
@@ -9,7 +9,7 @@ use Rattle.txs_drive.specs.declared.run.Run as rust_run
 use Rattle.txs_drive.specs.declared.session.Session as rust
 use Rattle.txs_drive.specs.declared.model.Model.{Model}
 use Rattle.txs_drive.specs.Allowed.{definitions, scope, sync, latest_first, IsAllowed}
-use Rattle.txs_drive.specs.Session.{Run, State, dialled_of, done, Judges, Heeds}
+use Rattle.txs_drive.specs.Session.{Run, State, done, Judges, Heeds}
 use Rattle.txs_drive.specs.declared.note.Seen.{Seen}
 use Rattle.txs_drive.specs.declared.note.Seen.TheVariants as seen
 use Rattle.txs_terms.specs.declared.term.Term as rust_term

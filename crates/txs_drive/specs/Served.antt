@@ -1,12 +1,12 @@
 -- What a session of a model did: all that it wrote and called, and its status, as the reference run has it.
-use Rattle.std.specs.Prelude.{◌≡◌, ◌⊎◌, ℕ, zero, suc, ◌+◌, ◌≤◌, Bool, true, false, cond, eqb, List, [], ◌∷◌, ◌++◌, length, Option, Some, None}
+use Rattle.std.specs.Prelude.{◌≡◌, ℕ, zero, suc, ◌≤◌, Bool, true, false, cond, eqb, List, [], ◌∷◌, ◌++◌, length, Option, Some, None}
 use Rattle.txs_outside.specs.Causes.{Rose}
 use Rattle.txs_outside.specs.Known.{Grows, Adds}
 use Rattle.txs_outside.specs.declared.sut.SutEntry.{SutEntry}
 use Rattle.txs_drive.specs.declared.doing.Doing.TheVariants.{HangUp, Quit}
 use Rattle.txs_drive.specs.declared.model.Model.{Model}
 use Rattle.txs_drive.specs.declared.note.Note.TheVariants as note
-use Rattle.txs_drive.specs.declared.note.Ending.TheVariants.{Link, Fail}
+use Rattle.txs_drive.specs.declared.note.Ending.TheVariants.{Link}
 use Rattle.txs_drive.specs.Session.{State, first, dialled_of}
 use Rattle.txs_drive.specs.Course.{Event, does', Leads, lines_in, notes_in, text_of, has_fail, IsNoted, hung_after, calls_in}
 

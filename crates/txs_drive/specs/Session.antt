@@ -1,5 +1,5 @@
 -- What a session does for its commands, for what the system tells: the steps of the reference run.
-use Rattle.std.specs.Prelude.{◌≡◌, ◌⊎◌, ℕ, suc, ◌+◌, ℤ, Bool, true, false, not, ◌||◌, cond, eqb, nat_lt, List, [], ◌∷◌, ◌++◌, length, Option, Some, None}
+use Rattle.std.specs.Prelude.{◌≡◌, ◌⊎◌, ℕ, ◌+◌, ℤ, Bool, true, false, not, ◌||◌, cond, eqb, nat_lt, List, [], ◌∷◌, ◌++◌, length, Option, Some, None}
 use Rattle.txs_outside.specs.declared.sut.Heard.{Heard}
 use Rattle.txs_outside.specs.declared.sut.Heard.TheVariants as heard
 use Rattle.txs_drive.specs.declared.note.Seen.{Seen}
@@ -16,7 +16,7 @@ use Rattle.txs_drive.specs.declared.command.Command.{Command}
 use Rattle.txs_drive.specs.declared.command.Command.TheVariants as command
 use Rattle.txs_drive.specs.declared.model.Model.{Model}
 use Rattle.txs_drive.specs.Parts.{cut_at}
-use Rattle.txs_drive.specs.Commands.{command_of, spelled}
+use Rattle.txs_drive.specs.Commands.{spelled}
 use Rattle.txs_drive.specs.Allowed.{MaySend, MaySee}
 
 -- what was numbered, whether the run has ended, and how many ends are dialled

@@ -33,13 +33,7 @@ fn code_of(finish: Finish, failed: bool) -> u8
     ensures { result ≡ code_of finish failed }
 {
     match finish {
-        Finish::Quit | Finish::End => {
-            if failed {
-                10
-            } else {
-                0
-            }
-        }
+        Finish::Quit | Finish::End => { if failed { 10 } else { 0 } }
         Finish::Failed => 3,
         Finish::TooLong => 6,
     }
@@ -69,7 +63,7 @@ pub fn run_plain<S: Source, K: Sink, U: Sut>(
     // What was read, written and called, and the status, are those of the reference run.
     ensures served { result.code ≢ 4 → result.code ≢ 5
         → Served model.now (S.given source.old) (S.given source.new) (S.at_end source.new) (K.taken sink.old) (K.taken sink.new) (U.calls sut.old) (U.calls sut.new)
-          (U.hang_ups sut.old) (U.hang_ups sut.new) (U.faults sut.old) (U.faults sut.new) result.code }
+        (U.hang_ups sut.old) (U.hang_ups sut.new) (U.faults sut.old) (U.faults sut.new) result.code }
 
     // No fault is told by itself, and no other status is given.
     ensures read { result.code ≡ 3 → Rose (S.faults source.old) (S.faults source.new) }

@@ -149,9 +149,7 @@ impl Session {
         ensures after { IfOk result (λ ts. (m : Model) → Keeps m self.now.run → IsMoved m seen self.now.run ts) }
         ensures allowed { IfOk result (λ ts. (m : Model) → Keeps m self.now.run → (0 < length ts) ↔ AllowedNow m seen self.now.run) }
     {
-        let Some(run) = &self.run else {
-            unreachable!()
-        };
+        let Some(run) = &self.run else { unreachable!() };
         Ok(set_after(alloc, run.set.as_slice(), seen)?)
     }
 
@@ -160,9 +158,7 @@ impl Session {
         requires { IsGoing (state_of self.now).run }
         ensures { result ≡ next_number (state_of self.now).run }
     {
-        let Some(run) = &self.run else {
-            unreachable!()
-        };
+        let Some(run) = &self.run else { unreachable!() };
         run.trace.len() + 1
     }
 
@@ -334,11 +330,7 @@ impl Session {
         run.is_over = true;
         self.todo = plan(
             alloc,
-            &[
-                Doing::Say(Note::Ended(ending)),
-                Doing::HangUp,
-                Doing::Idle,
-            ],
+            &[Doing::Say(Note::Ended(ending)), Doing::HangUp, Doing::Idle],
         )?;
         Ok(())
     }
@@ -358,7 +350,10 @@ impl Session {
             return Ok(self.end(alloc, Ending::Link)?);
         }
         let number = self.number();
-        let todo = plan(alloc, &[Doing::Say(Note::In { number, value }), Doing::Idle])?;
+        let todo = plan(
+            alloc,
+            &[Doing::Say(Note::In { number, value }), Doing::Idle],
+        )?;
         let set = self.moved(alloc, Seen::In(value))?;
         Ok(self.see(Seen::In(value), set, todo)?)
     }

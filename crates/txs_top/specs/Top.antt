@@ -1,6 +1,5 @@
 -- What the words of the program ask for, and what a run of a file does.
-use Rattle.std.specs.Prelude.{◌≡◌, ◌⊎◌, ◌<◌, ℕ, Bool, List, [], ◌∷◌, length, codes, Option, IfSome}
-use Rattle.txs_outside.specs.Causes.{Rose}
+use Rattle.std.specs.Prelude.{◌≡◌, ◌<◌, ℕ, Bool, List, [], ◌∷◌, length, codes, Option, IfSome}
 use Rattle.txs_outside.specs.Known.{Tells}
 use Rattle.txs_outside.specs.declared.sut.SutEntry.{SutEntry}
 use Rattle.txs_drive.specs.declared.model.Model.{Model}

@@ -1,7 +1,7 @@
-use Rattle.std.proofs.Common.{◌≡◌, [], refl, Option, Some, Ok, sym, FitsSigned, rules}
+use Rattle.std.proofs.Common.{[], refl, sym, FitsSigned, rules}
 use Rattle.std.specs.Int.{w128}
 use Rattle.std.proofs.lemmas.Int.{to_z-of_z}
-use Rattle.txs_values.specs.Value.{whole, num}
+use Rattle.txs_values.specs.Value.{whole}
 use Rattle.txs_values.specs.Spelling.{read_text}
 use Rattle.txs_drive.proofs.Spelled.{number_of-none}
 use Rattle.txs_drive.proofs.command.spelled.Goals as goal

@@ -1,4 +1,4 @@
-use Rattle.std.proofs.Common.{◌≡◌, ◌<◌, ◌∙◌, [], ◌∷◌, List, arith, subst, refl}
+use Rattle.std.proofs.Common.{arith, refl}
 use Rattle.txs_drive.specs.Ready.{state_of}
 use Rattle.txs_drive.proofs.Calls.{dialled_same}
 use Rattle.txs_drive.proofs.Courses.{went_then, went_line}

@@ -1,4 +1,4 @@
-use Rattle.std.proofs.Common.{◌≡◌, ◌<◌, ◌∷◌, ◌∙◌, [], List, ℕ, Bool, false, is_ok, length, ap, subst, sym, refl}
+use Rattle.std.proofs.Common.{◌≡◌, ◌∷◌, ◌∙◌, [], List, Bool, is_ok, length, ap, subst, sym}
 use Rattle.txs_outside.specs.Known.{Adds}
 use Rattle.txs_outside.specs.declared.sut.SutEntry.{SutEntry}
 use Rattle.txs_outside.specs.declared.sut.SutCall.TheVariants.{Dial}
@@ -12,8 +12,8 @@ pub returns-clause-called : goal.returns-clause-called
 returns-clause-called g c =
     let ok : c.is_ok-ok.result ≡ is_ok c.dial.result = c.is_ok-ok.ensures.value in
     let added : entry (g.U.Sut.hang_ups c.args.sut.now) (Dial c.in_ok-ends.ends (is_ok c.dial.result)) ∷ [] ≡ entry (g.U.Sut.hang_ups c.args.sut.now) (Dial (ends_of c.args.model.now) c.is_ok-ok.result) ∷ []
-      = ap (λ (e : Ends). entry (g.U.Sut.hang_ups c.args.sut.now) (Dial e (is_ok c.dial.result)) ∷ []) c.in_ok-ends.ensures
-      ∙ ap (λ (b : Bool). entry (g.U.Sut.hang_ups c.args.sut.now) (Dial (ends_of c.args.model.now) b) ∷ []) (sym ok) in
+    = ap (λ (e : Ends). entry (g.U.Sut.hang_ups c.args.sut.now) (Dial e (is_ok c.dial.result)) ∷ []) c.in_ok-ends.ensures
+    ∙ ap (λ (b : Bool). entry (g.U.Sut.hang_ups c.args.sut.now) (Dial (ends_of c.args.model.now) b) ∷ []) (sym ok) in
     called_dial c.args.model.now (state_of c.args.session.now) (state_of c.after_dial.new.self) _ _ _ _ _ _ c.is_ok-ok.result c.requires.due c.in_ok-after_dial.ensures.told
     (subst (λ (x : List SutEntry). Adds (g.U.Sut.calls c.args.sut.now) (g.U.Sut.calls c.dial.new.self) x) added c.dial.ensures.calls)
     c.dial.ensures.hang_ups c.dial.ensures.cause.later (λ e. c.dial.ensures.cause.failed (err_of c.dial.result (sym ok ∙ e)))

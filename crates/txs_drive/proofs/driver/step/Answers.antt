@@ -1,9 +1,8 @@
-use Rattle.std.proofs.Common.{◌≡◌, ◌<◌, ◌∙◌, ℕ, List, refl, arith, subst, rules}
+use Rattle.std.proofs.Common.{◌≡◌, refl, arith, rules}
 use Rattle.txs_drive.specs.Lines.{line_of}
 use Rattle.txs_drive.specs.Ready.{state_of}
-use Rattle.txs_drive.specs.Going.{IsReady}
 use Rattle.txs_drive.proofs.Calls.{dialled_same}
-use Rattle.txs_drive.proofs.Courses.{went_said, went_hung, went_idle, went_quit, went_called}
+use Rattle.txs_drive.proofs.Courses.{went_said, went_hung, went_idle, went_quit}
 use Rattle.txs_drive.proofs.driver.step.Goals as goal
 
 pub dial-requires-clause-ready : goal.dial-requires-clause-ready

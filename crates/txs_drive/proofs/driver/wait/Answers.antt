@@ -1,4 +1,3 @@
-use Rattle.std.proofs.Common.{◌≡◌}
 use Rattle.txs_drive.specs.Ready.{state_of}
 use Rattle.txs_drive.proofs.Calls.{called_wait, heeded_rank, dialled_same}
 use Rattle.txs_drive.proofs.driver.wait.Goals as goal

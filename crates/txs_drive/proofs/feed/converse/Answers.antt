@@ -1,9 +1,8 @@
-use Rattle.std.proofs.Common.{◌≡◌, ◌<◌, ◌≤◌, ◌+◌, ◌∙◌, [], ℕ, List, Bool, arith, refl, ap, length, subst, sym}
+use Rattle.std.proofs.Common.{◌≡◌, ◌<◌, ◌+◌, ◌∙◌, ℕ, List, arith, ap, length, subst, sym}
 use Rattle.txs_outside.specs.Known.{Grows}
-use Rattle.txs_drive.specs.declared.doing.Doing.{Doing}
 use Rattle.txs_drive.specs.Session.{State}
 use Rattle.txs_drive.specs.Ready.{state_of, IsTied}
-use Rattle.txs_drive.specs.Going.{HasNoFeed, TookSome}
+use Rattle.txs_drive.specs.Going.{HasNoFeed}
 use Rattle.txs_drive.proofs.Talking.{talked_begin, talked_on, conversed_quit, conversed_fault, conversed_limit, conversed_end}
 use Rattle.txs_drive.proofs.feed.converse.Goals as goal
 
@@ -22,7 +21,7 @@ reads-init g c = record {
 pub reads-preserved : goal.reads-preserved
 reads-preserved g c =
     let gave : Grows (g.S.Source.given c.reads.source) (g.S.Source.given c.read_piece.new.source) c.as_slice-piece.result.now
-      = subst (λ (p : List ℕ). Grows (g.S.Source.given c.reads.source) (g.S.Source.given c.read_piece.new.source) p) (sym c.as_slice-piece.ensures) (rw c.in-Piece.is at c.in_ok-read_piece.ensures.given) in
+    = subst (λ (p : List ℕ). Grows (g.S.Source.given c.reads.source) (g.S.Source.given c.read_piece.new.source) p) (sym c.as_slice-piece.ensures) (rw c.in-Piece.is at c.in_ok-read_piece.ensures.given) in
     let size = rw c.in-Piece.is at c.in_ok-read_piece.ensures.size in
     let count : c.len-taken.result ≡ length c.as_slice-piece.result.now = c.len-taken.ensures ∙ ap length (sym c.as_slice-piece.ensures) in
     let took = rw c.if-branch.false at c.in_ok-take_piece-in-Piece.ensures.took in
@@ -52,7 +51,7 @@ returns-then-taken-eq-LIMIT-clause-conversed g c =
 pub returns-then-branch-clause-conversed : goal.returns-then-branch-clause-conversed
 returns-then-branch-clause-conversed g c =
     let gave : Grows (g.S.Source.given c.reads.source) (g.S.Source.given c.read_piece.new.source) c.as_slice-piece.result.now
-      = subst (λ (p : List ℕ). Grows (g.S.Source.given c.reads.source) (g.S.Source.given c.read_piece.new.source) p) (sym c.as_slice-piece.ensures) (rw c.in-Piece.is at c.in_ok-read_piece.ensures.given) in
+    = subst (λ (p : List ℕ). Grows (g.S.Source.given c.reads.source) (g.S.Source.given c.read_piece.new.source) p) (sym c.as_slice-piece.ensures) (rw c.in-Piece.is at c.in_ok-read_piece.ensures.given) in
     let size = rw c.in-Piece.is at c.in_ok-read_piece.ensures.size in
     let count : length c.in-Piece.piece ≡ length c.as_slice-piece.result.now = ap length (sym c.as_slice-piece.ensures) in
     let below : c.reads.taken < 16777216 = omega (arith, c.reads.invariant.within, c.if-taken-eq-LIMIT.false) in

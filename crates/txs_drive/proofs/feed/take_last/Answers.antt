@@ -1,8 +1,6 @@
-use Rattle.std.proofs.Common.{◌≡◌, ◌∷◌, [], List, ℕ, false, length, arith, refl}
+use Rattle.std.proofs.Common.{◌≡◌, ◌∷◌, [], List, ℕ, length, arith, refl}
 use Rattle.std.proofs.lemmas.Grind.{common_steps}
-use Rattle.txs_drive.specs.Served.{end, last_part}
 use Rattle.txs_drive.specs.Ready.{state_of}
-use Rattle.txs_drive.specs.Going.{Went}
 use Rattle.txs_drive.proofs.Courses.{went_nowhere}
 use Rattle.txs_drive.proofs.feed.take_last.Goals as goal
 
@@ -12,8 +10,7 @@ no_bytes (b ∷ bs) h = absurd (omega (arith, h))
 
 pub returns-then-is_empty-clause-went : goal.returns-then-is_empty-clause-went
 returns-then-is_empty-clause-went g c =
-    let none : c.args.line.now ≡ [] = no_bytes c.args.line.now (grind (arith, common_steps)) in
-    (
+    let none : c.args.line.now ≡ [] = no_bytes c.args.line.now (grind (arith, common_steps)) in (
       rw none (went_nowhere c.args.model.now (state_of c.args.session.now) (g.K.Sink.taken c.args.sink.now) (g.U.Sut.calls c.args.sut.now) (g.U.Sut.hang_ups c.args.sut.now) (g.U.Sut.faults c.args.sut.now)),
       tt,
     )

@@ -1,4 +1,4 @@
-use Rattle.std.proofs.Common.{◌≡◌, ◌<◌, ◌+◌, ◌++◌, ◌∷◌, [], ℕ, List, true, false, subst, sym, append-nil, arith, get_or, take, drop, length}
+use Rattle.std.proofs.Common.{◌+◌, ◌++◌, ◌∷◌, [], ℕ, List, true, false, subst, sym, append-nil, arith, get_or, take, drop}
 use Rattle.txs_drive.specs.Ready.{state_of}
 use Rattle.txs_drive.specs.Going.{Took}
 use Rattle.txs_drive.proofs.Feeding.{took_then, took_part, took_more, take_step, take_rest}
@@ -21,7 +21,7 @@ loop-b-preserved g c =
     let took = rw c.if-branch.false at c.in_ok-take_byte.ensures.took in
     record {
       took = subst (λ (z : List ℕ). Took c.args.model.now (state_of c.args.session.now) (state_of c.take_byte.new.session) (g.K.Sink.taken c.args.sink.now) (g.K.Sink.taken c.take_byte.new.sink) (g.U.Sut.calls c.args.sut.now) (g.U.Sut.calls c.take_byte.new.sut)
-      (g.U.Sut.hang_ups c.args.sut.now) (g.U.Sut.hang_ups c.take_byte.new.sut) (g.U.Sut.faults c.args.sut.now) (g.U.Sut.faults c.take_byte.new.sut) z c.take_byte.new.pending false)
+          (g.U.Sut.hang_ups c.args.sut.now) (g.U.Sut.hang_ups c.take_byte.new.sut) (g.U.Sut.faults c.args.sut.now) (g.U.Sut.faults c.take_byte.new.sut) z c.take_byte.new.pending false)
           (take_step c.args.pending.now c.args.piece.now c.loop-b.b-index c.loop-b-test.true)
           (took_then _ _ _ _ _ _ _ _ _ _ _ _ _ _ _ _ (c.args.pending.now ++ take c.loop-b.b-index c.args.piece.now) (get_or c.args.piece.now c.loop-b.b-index 0 ∷ []) _ _ _ c.loop-b.invariant.took took);
       ready = c.in_ok-take_byte.ensures.ready;
@@ -35,16 +35,15 @@ pub returns-then-branch-clause-took : goal.returns-then-branch-clause-took
 returns-then-branch-clause-took g c =
     let took = rw c.if-branch.true at c.in_ok-take_byte.ensures.took in
     let all : Took c.args.model.now (state_of c.args.session.now) (state_of c.take_byte.new.session) (g.K.Sink.taken c.args.sink.now) (g.K.Sink.taken c.take_byte.new.sink) (g.U.Sut.calls c.args.sut.now) (g.U.Sut.calls c.take_byte.new.sut)
-      (g.U.Sut.hang_ups c.args.sut.now) (g.U.Sut.hang_ups c.take_byte.new.sut) (g.U.Sut.faults c.args.sut.now) (g.U.Sut.faults c.take_byte.new.sut) (c.args.pending.now ++ take (c.loop-b.b-index + 1) c.args.piece.now) c.take_byte.new.pending true
-      = subst (λ (z : List ℕ). Took c.args.model.now (state_of c.args.session.now) (state_of c.take_byte.new.session) (g.K.Sink.taken c.args.sink.now) (g.K.Sink.taken c.take_byte.new.sink) (g.U.Sut.calls c.args.sut.now) (g.U.Sut.calls c.take_byte.new.sut)
-      (g.U.Sut.hang_ups c.args.sut.now) (g.U.Sut.hang_ups c.take_byte.new.sut) (g.U.Sut.faults c.args.sut.now) (g.U.Sut.faults c.take_byte.new.sut) z c.take_byte.new.pending true)
-        (take_step c.args.pending.now c.args.piece.now c.loop-b.b-index c.loop-b-test.true)
-        (took_then _ _ _ _ _ _ _ _ _ _ _ _ _ _ _ _ (c.args.pending.now ++ take c.loop-b.b-index c.args.piece.now) (get_or c.args.piece.now c.loop-b.b-index 0 ∷ []) _ _ _ c.loop-b.invariant.took took) in
-    (
+    (g.U.Sut.hang_ups c.args.sut.now) (g.U.Sut.hang_ups c.take_byte.new.sut) (g.U.Sut.faults c.args.sut.now) (g.U.Sut.faults c.take_byte.new.sut) (c.args.pending.now ++ take (c.loop-b.b-index + 1) c.args.piece.now) c.take_byte.new.pending true
+    = subst (λ (z : List ℕ). Took c.args.model.now (state_of c.args.session.now) (state_of c.take_byte.new.session) (g.K.Sink.taken c.args.sink.now) (g.K.Sink.taken c.take_byte.new.sink) (g.U.Sut.calls c.args.sut.now) (g.U.Sut.calls c.take_byte.new.sut)
+    (g.U.Sut.hang_ups c.args.sut.now) (g.U.Sut.hang_ups c.take_byte.new.sut) (g.U.Sut.faults c.args.sut.now) (g.U.Sut.faults c.take_byte.new.sut) z c.take_byte.new.pending true)
+    (take_step c.args.pending.now c.args.piece.now c.loop-b.b-index c.loop-b-test.true)
+    (took_then _ _ _ _ _ _ _ _ _ _ _ _ _ _ _ _ (c.args.pending.now ++ take c.loop-b.b-index c.args.piece.now) (get_or c.args.piece.now c.loop-b.b-index 0 ∷ []) _ _ _ c.loop-b.invariant.took took) in (
       c.take_byte.new.pending ++ drop (c.loop-b.b-index + 1) c.args.piece.now,
       subst (λ (z : List ℕ). Took c.args.model.now (state_of c.args.session.now) (state_of c.take_byte.new.session) (g.K.Sink.taken c.args.sink.now) (g.K.Sink.taken c.take_byte.new.sink) (g.U.Sut.calls c.args.sut.now) (g.U.Sut.calls c.take_byte.new.sut)
-      (g.U.Sut.hang_ups c.args.sut.now) (g.U.Sut.hang_ups c.take_byte.new.sut) (g.U.Sut.faults c.args.sut.now) (g.U.Sut.faults c.take_byte.new.sut) z (c.take_byte.new.pending ++ drop (c.loop-b.b-index + 1) c.args.piece.now) true)
-        (take_rest c.args.pending.now c.args.piece.now (c.loop-b.b-index + 1))
-        (took_more _ _ _ _ _ _ _ _ _ _ _ _ _ (drop (c.loop-b.b-index + 1) c.args.piece.now) _ all),
+          (g.U.Sut.hang_ups c.args.sut.now) (g.U.Sut.hang_ups c.take_byte.new.sut) (g.U.Sut.faults c.args.sut.now) (g.U.Sut.faults c.take_byte.new.sut) z (c.take_byte.new.pending ++ drop (c.loop-b.b-index + 1) c.args.piece.now) true)
+          (take_rest c.args.pending.now c.args.piece.now (c.loop-b.b-index + 1))
+          (took_more _ _ _ _ _ _ _ _ _ _ _ _ _ (drop (c.loop-b.b-index + 1) c.args.piece.now) _ all),
       λ e. cc,
     )

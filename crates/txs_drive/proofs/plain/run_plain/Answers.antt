@@ -1,4 +1,4 @@
-use Rattle.std.proofs.Common.{◌≡◌, ◌∙◌, ℕ, Bool, ap}
+use Rattle.std.proofs.Common.{◌∙◌, ℕ, Bool, ap}
 use Rattle.txs_drive.specs.Course.{hung_after}
 use Rattle.txs_drive.specs.Served.{last_of}
 use Rattle.txs_drive.specs.Ready.{state_of}

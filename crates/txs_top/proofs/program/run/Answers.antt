@@ -1,35 +1,43 @@
-use Rattle.std.proofs.Common.{rules, inr, ◌≡◌, ◌⊎◌, ◌≢◌, ◌<◌, ◌≤◌, ◌∷◌, [], ℕ, List, Some, length, sym, ◌∙◌, subst, arith}
+use Rattle.std.proofs.Common.{inr, ℕ, List, sym, subst, arith}
 use Rattle.txs_drive.specs.declared.model.Model.{Model}
 use Rattle.txs_drive.specs.File.{IsFile}
-use Rattle.txs_top.specs.Top.{RanFile}
 use Rattle.txs_top.proofs.Pairs.{not-four, not-five, unlike, above}
 use Rattle.txs_top.proofs.program.run.Goals as goal
 
 pub returns-in-Err-Later-clause-refused_only : goal.returns-in-Err-Later-clause-refused_only
-returns-in-Err-Later-clause-refused_only g c two =
-    (c.in-Ok.bytes, c.in-Ok.ensures.bytes, λ (m : Model) (f : IsFile c.in-Ok.bytes m).
-        c.in-Err-Later.ensures.later (cc (c.in-Err-Later.field-0-is)) m (subst (λ (b : List ℕ). IsFile b m) (sym c.as_slice.ensures) f))
+returns-in-Err-Later-clause-refused_only g c two = (
+  c.in-Ok.bytes,
+  c.in-Ok.ensures.bytes,
+  λ (m : Model) (f : IsFile c.in-Ok.bytes m).
+      c.in-Err-Later.ensures.later (cc (c.in-Err-Later.field-0-is)) m (subst (λ (b : List ℕ). IsFile b m) (sym c.as_slice.ensures) f),
+)
 
 pub returns-clause-headline : goal.returns-clause-headline
 returns-clause-headline g c some = record {
-    bytes = c.in-Ok.bytes ;
-    holds = c.in-Ok.ensures.bytes ;
-    model = c.in-Ok-run_load.model ;
-    states = subst (λ (b : List ℕ). IsFile b c.in-Ok-run_load.model) c.as_slice.ensures c.in-Ok-run_load.ensures.ok ;
-    served = c.run_plain.ensures.served (not-four c.run_plain.result.code some) (not-five c.run_plain.result.code some) }
+  bytes = c.in-Ok.bytes;
+  holds = c.in-Ok.ensures.bytes;
+  model = c.in-Ok-run_load.model;
+  states = subst (λ (b : List ℕ). IsFile b c.in-Ok-run_load.model) c.as_slice.ensures c.in-Ok-run_load.ensures.ok;
+  served = c.run_plain.ensures.served (not-four c.run_plain.result.code some) (not-five c.run_plain.result.code some);
+}
 
 pub returns-clause-read : goal.returns-clause-read
-returns-clause-read g c three = inr (c.run_plain.ensures.read three, record {
-    bytes = c.in-Ok.bytes ;
-    holds = c.in-Ok.ensures.bytes ;
-    model = c.in-Ok-run_load.model ;
-    states = subst (λ (b : List ℕ). IsFile b c.in-Ok-run_load.model) c.as_slice.ensures c.in-Ok-run_load.ensures.ok ;
-    served = c.run_plain.ensures.served (unlike c.run_plain.result.code 3 4 (omega arith) three) (unlike c.run_plain.result.code 3 5 (omega arith) three) })
+returns-clause-read g c three = inr (
+  c.run_plain.ensures.read three,
+  record {
+    bytes = c.in-Ok.bytes;
+    holds = c.in-Ok.ensures.bytes;
+    model = c.in-Ok-run_load.model;
+    states = subst (λ (b : List ℕ). IsFile b c.in-Ok-run_load.model) c.as_slice.ensures c.in-Ok-run_load.ensures.ok;
+    served = c.run_plain.ensures.served (unlike c.run_plain.result.code 3 4 (omega arith) three) (unlike c.run_plain.result.code 3 5 (omega arith) three);
+  },
+)
 
 pub returns-clause-limit : goal.returns-clause-limit
 returns-clause-limit g c six = inr (record {
-    bytes = c.in-Ok.bytes ;
-    holds = c.in-Ok.ensures.bytes ;
-    model = c.in-Ok-run_load.model ;
-    states = subst (λ (b : List ℕ). IsFile b c.in-Ok-run_load.model) c.as_slice.ensures c.in-Ok-run_load.ensures.ok ;
-    served = c.run_plain.ensures.served (above c.run_plain.result.code 6 4 (omega arith) six) (above c.run_plain.result.code 6 5 (omega arith) six) })
+  bytes = c.in-Ok.bytes;
+  holds = c.in-Ok.ensures.bytes;
+  model = c.in-Ok-run_load.model;
+  states = subst (λ (b : List ℕ). IsFile b c.in-Ok-run_load.model) c.as_slice.ensures c.in-Ok-run_load.ensures.ok;
+  served = c.run_plain.ensures.served (above c.run_plain.result.code 6 4 (omega arith) six) (above c.run_plain.result.code 6 5 (omega arith) six);
+})

@@ -1,6 +1,4 @@
-use Rattle.std.proofs.Common.{rules, ◌≡◌, ◌⊎◌, inl, inr, ◌<◌, ◌≤◌, ◌∷◌, [], ℕ, List, Some, Option, length, map, string_bytes, codes, sym, ◌∙◌, ap, subst, Global}
-use Rattle.txs_outside.specs.Known.{Tells}
-use Rattle.txs_top.specs.Top.{IsRun, IsNoFile, Asked, RanFile, IsLong}
+use Rattle.std.proofs.Common.{rules, ◌≡◌, inl, inr, ◌∷◌, [], ℕ, List, Some, string_bytes, codes, sym, ◌∙◌, ap, subst, Global}
 use Rattle.txs_top.proofs.Pairs.{pair-is, second-is}
 use Rattle.txs_top.proofs.program.top.Goals as goal
 
@@ -33,7 +31,7 @@ returns-clause-refused_only g c two =
     let word : string_bytes c.word-item.result ≡ codes "run" = search rules in
     let both = pair-is _ (string_bytes {Z = Global}) c.args.words.now c.word-item.result c.file-item.result c.in-len2.len_at_least c.in-len2.len_below c.word-item.is c.file-item.is in
     let r = c.run.ensures.refused_only two in
-    (r.0, record { file = c.as_str-2.result.now ; run = both ∙ ap (λ (q : List ℕ). q ∷ string_bytes c.file-item.result ∷ []) word ∙ ap (λ (q : List ℕ). codes "run" ∷ q ∷ []) (sym c.as_str-2.ensures.value) ; holds = r.1 }, r.2)
+    (r.0, record { file = c.as_str-2.result.now; run = both ∙ ap (λ (q : List ℕ). q ∷ string_bytes c.file-item.result ∷ []) word ∙ ap (λ (q : List ℕ). codes "run" ∷ q ∷ []) (sym c.as_str-2.ensures.value); holds = r.1 }, r.2)
 
 pub returns-clause-read : goal.returns-clause-read
 returns-clause-read g c three =
@@ -42,7 +40,8 @@ returns-clause-read g c three =
     let is = both ∙ ap (λ (q : List ℕ). q ∷ string_bytes c.file-item.result ∷ []) word ∙ ap (λ (q : List ℕ). codes "run" ∷ q ∷ []) (sym c.as_str-2.ensures.value) in
     elim (c.run.ensures.read three) [
       | inl a ↦ inl a
-      | inr b ↦ inr (b.0, (c.as_str-2.result.now, is, b.1)) ]
+      | inr b ↦ inr (b.0, (c.as_str-2.result.now, is, b.1))
+    ]
 
 pub returns-clause-limit : goal.returns-clause-limit
 returns-clause-limit g c six =
@@ -51,7 +50,8 @@ returns-clause-limit g c six =
     let is = both ∙ ap (λ (q : List ℕ). q ∷ string_bytes c.file-item.result ∷ []) word ∙ ap (λ (q : List ℕ). codes "run" ∷ q ∷ []) (sym c.as_str-2.ensures.value) in
     elim (c.run.ensures.limit six) [
       | inl a ↦ inl ((c.as_str-2.result.now, is, a.0), a.1, a.2, a.3)
-      | inr b ↦ inr (c.as_str-2.result.now, is, b) ]
+      | inr b ↦ inr (c.as_str-2.result.now, is, b)
+    ]
 
 pub returns-clause-file_limit : goal.returns-clause-file_limit
 returns-clause-file_limit g c file bytes words told long =
