@@ -7,7 +7,7 @@ use std::{env, io};
 use txs_outside::{DiskFiles, ReaderSource, TcpSut, WriterSink};
 use txs_top::top;
 
-/// The status where memory runs out before the words are known.
+/// The status where memory runs out before the session begins.
 const NO_MEMORY: u8 = 5;
 
 /// The words of the command line behind the program's name. Where one is no text there are none,
@@ -26,10 +26,9 @@ fn words_of(rt: &(impl Env + AllocGlobal)) -> io::Result<Vec<String>> {
     Ok(words)
 }
 
-fn main(rt: HostRuntime) -> io::Result<ExitCode> {
-    let Ok(words) = words_of(&rt) else {
-        return Ok(ExitCode::from(NO_MEMORY));
-    };
+/// Runs the words of the command line over the real objects, and answers the status.
+fn run(rt: HostRuntime) -> io::Result<u8> {
+    let words = words_of(&rt)?;
     let mut files = DiskFiles::new(rt.clone()?);
     let mut source = ReaderSource::new(rt.stdin());
     let mut sink = WriterSink::new(rt.stdout());
@@ -42,5 +41,12 @@ fn main(rt: HostRuntime) -> io::Result<ExitCode> {
         &mut sink,
         &mut sut,
     );
-    Ok(ExitCode::from(status.code))
+    Ok(status.code)
+}
+
+fn main(rt: HostRuntime) -> io::Result<ExitCode> {
+    match run(rt) {
+        Ok(code) => Ok(ExitCode::from(code)),
+        Err(_) => Ok(ExitCode::from(NO_MEMORY)),
+    }
 }

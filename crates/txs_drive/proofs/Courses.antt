@@ -4,13 +4,13 @@ use Rattle.txs_outside.specs.declared.sut.SutEntry.{SutEntry}
 use Rattle.txs_outside.specs.Causes.{Rose-before, Rose-after}
 use Rattle.txs_outside.specs.Known.{Grows, Adds, Grows-none, Grows-then, Adds-none, Adds-then}
 use Rattle.txs_drive.specs.declared.doing.Doing.{Doing}
-use Rattle.txs_drive.specs.declared.doing.Doing.TheVariants.{Say, HangUp, Idle, Quit}
+use Rattle.txs_drive.specs.declared.doing.Doing.TheVariants.{Say, Dial, Wait, Send, HangUp, Idle, Quit}
 use Rattle.txs_drive.specs.declared.model.Model.{Model}
 use Rattle.txs_drive.specs.declared.note.Note.{Note}
 use Rattle.txs_drive.specs.Commands.{command_of}
 use Rattle.txs_drive.specs.Lines.{line_of}
 use Rattle.txs_drive.specs.Session.{State, Carries, done}
-use Rattle.txs_drive.specs.Course.{Event, reads, does', dials, waits, sends, Leads, stays, reading, doing, dialling, waiting, sending, lines_in, notes_of, notes_in, text_of, hung_by, hung_after, calls_in, AnyFailed}
+use Rattle.txs_drive.specs.Course.{Event, reads, does', dials, waits, sends, Leads, stays, reading, doing, dialling, waiting, sending, lines_in, notes_of, notes_in, text_of, has_quit, hung_by, hung_after, calls_in, AnyFailed}
 use Rattle.txs_drive.specs.Going.{Went, Called, IsLeft}
 
 -- one course and then another
@@ -63,13 +63,27 @@ any_cases [] b h = inr h
 any_cases (e ∷ a) b (inl h) = inl (inl h)
 any_cases (e ∷ a) b (inr h) = elim (any_cases a b h) [ inl l ↦ inl (inr l) | inr r ↦ inr r ]
 
-left_behind : (a b : List Event) → IsLeft b → IsLeft (a ++ b)
-left_behind a b h = (a ++ h.0, ap (λ (q : List Event). a ++ q) h.1 ∙ sym (append_assoc a h.0 (does' Quit ∷ [])))
+stays_then : (a b : List Event) → has_quit a ≡ false → has_quit b ≡ false → has_quit (a ++ b) ≡ false
+stays_then [] b h k = k
+stays_then (reads line ∷ a) b h k = stays_then a b h k
+stays_then (does' (Say n) ∷ a) b h k = stays_then a b h k
+stays_then (does' Dial ∷ a) b h k = stays_then a b h k
+stays_then (does' Wait ∷ a) b h k = stays_then a b h k
+stays_then (does' (Send v) ∷ a) b h k = stays_then a b h k
+stays_then (does' HangUp ∷ a) b h k = stays_then a b h k
+stays_then (does' Idle ∷ a) b h k = stays_then a b h k
+stays_then (does' Quit ∷ a) b h k = cc
+stays_then (dials ok ∷ a) b h k = stays_then a b h k
+stays_then (waits x ∷ a) b h k = stays_then a b h k
+stays_then (sends v ok ∷ a) b h k = stays_then a b h k
+
+left_behind : (a b : List Event) → has_quit a ≡ false → IsLeft b → IsLeft (a ++ b)
+left_behind a b n h = (a ++ h.0, ap (λ (q : List Event). a ++ q) h.1 ∙ sym (append_assoc a h.0 (does' Quit ∷ [])), stays_then a h.0 n h.2)
 
 -- one stretch and then another
-pub went_then : (m : Model) (s t v : State) (k0 k1 k2 : Option (List ℕ)) (u0 u1 u2 : Option (List SutEntry)) (h0 h1 h2 : Option ℕ) (f0 f1 f2 : ℕ) (ls ms : List (List ℕ)) (p q : Bool)
-    → Went m s t k0 k1 u0 u1 h0 h1 f0 f1 ls p → Went m t v k1 k2 u1 u2 h1 h2 f1 f2 ms q → Went m s v k0 k2 u0 u2 h0 h2 f0 f2 (ls ++ ms) q
-went_then m s t v k0 k1 k2 u0 u1 u2 h0 h1 h2 f0 f1 f2 ls ms p q a b = record {
+pub went_then : (m : Model) (s t v : State) (k0 k1 k2 : Option (List ℕ)) (u0 u1 u2 : Option (List SutEntry)) (h0 h1 h2 : Option ℕ) (f0 f1 f2 : ℕ) (ls ms : List (List ℕ)) (q : Bool)
+    → Went m s t k0 k1 u0 u1 h0 h1 f0 f1 ls false → Went m t v k1 k2 u1 u2 h1 h2 f1 f2 ms q → Went m s v k0 k2 u0 u2 h0 h2 f0 f2 (ls ++ ms) q
+went_then m s t v k0 k1 k2 u0 u1 u2 h0 h1 h2 f0 f1 f2 ls ms q a b = record {
   events = a.events ++ b.events;
   leads = leads_then m s t v a.events b.events a.leads b.leads;
   read = lines_in-append a.events b.events ∙ (ap (λ (z : List (List ℕ)). z ++ lines_in b.events) a.read ∙ ap (λ (z : List (List ℕ)). ls ++ z) b.read);
@@ -80,7 +94,8 @@ went_then m s t v k0 k1 k2 u0 u1 u2 h0 h1 h2 f0 f1 f2 ls ms p q a b = record {
   hung = b.hung ∙ (ap (hung_after b.events) a.hung ∙ sym (hung_after-append a.events b.events h0));
   later = omega (arith, a.later, b.later);
   caused = λ x. elim (any_cases a.events b.events x) [ inl l ↦ Rose-before f0 f1 f2 (a.caused l) b.later | inr r ↦ Rose-after f0 f1 f2 a.later (b.caused r) ];
-  left = λ e. left_behind a.events b.events (b.left e);
+  left = λ e. left_behind a.events b.events (a.stays refl) (b.left e);
+  stays = λ e. stays_then a.events b.events (a.stays refl) (b.stays e);
 }
 
 -- a line was read
@@ -95,6 +110,7 @@ went_line m s t k u h f line e c = record {
   later = omega arith;
   caused = λ x. elim x [ inl y ↦ absurd y | inr y ↦ absurd y ];
   left = λ x. cc;
+  stays = λ _. refl;
 }
 
 -- the system was called
@@ -109,6 +125,7 @@ went_called m s t k u0 u1 h0 h1 f0 f1 c = record {
   later = c.later;
   caused = c.caused;
   left = λ x. cc;
+  stays = λ _. c.stays;
 }
 
 -- a note was written
@@ -124,6 +141,7 @@ went_said m s t k0 k1 u h f n more text e d l w = record {
   later = omega arith;
   caused = λ x. elim x [ inl y ↦ absurd y | inr y ↦ absurd y ];
   left = λ x. cc;
+  stays = λ _. refl;
 }
 
 -- the ends were hung up
@@ -139,6 +157,7 @@ went_hung m s t k u0 u1 h0 h1 f0 f1 more e d a h f = record {
   later = omega (arith, f);
   caused = λ x. elim x [ inl y ↦ absurd y | inr y ↦ absurd y ];
   left = λ x. cc;
+  stays = λ _. refl;
 }
 
 -- a command was carried out
@@ -154,6 +173,7 @@ went_idle m s t k u h f more e d = record {
   later = omega arith;
   caused = λ x. elim x [ inl y ↦ absurd y | inr y ↦ absurd y ];
   left = λ x. cc;
+  stays = λ _. refl;
 }
 
 -- the session ended
@@ -168,7 +188,8 @@ went_quit m s t k u h f more e d = record {
   hung = refl;
   later = omega arith;
   caused = λ x. elim x [ inl y ↦ absurd y | inr y ↦ absurd y ];
-  left = λ x. ([], refl);
+  left = λ x. ([], refl, refl);
+  stays = λ x. cc;
 }
 
 -- nothing happened
@@ -183,4 +204,5 @@ went_nowhere m s k u h f = record {
   later = omega arith;
   caused = λ x. absurd x;
   left = λ x. cc;
+  stays = λ _. refl;
 }

@@ -91,7 +91,7 @@ took_then m s t v k0 k1 k2 u0 u1 u2 h0 h1 h2 f0 f1 f2 a b r w q x y = record {
   split = ap (λ (z : List ℕ). z ++ b) x.split ∙ (append_assoc (joined x.lines) r b ∙ (ap (λ (z : List ℕ). joined x.lines ++ z) y.split
       ∙ (sym (append_assoc (joined x.lines) (joined y.lines) w) ∙ ap (λ (z : List ℕ). z ++ w) (sym (joined-append x.lines y.lines)))));
   each = all-append HasNoFeed x.lines y.lines x.each y.each;
-  went = went_then m s t v k0 k1 k2 u0 u1 u2 h0 h1 h2 f0 f1 f2 x.lines y.lines false q x.went y.went;
+  went = went_then m s t v k0 k1 k2 u0 u1 u2 h0 h1 h2 f0 f1 f2 x.lines y.lines q x.went y.went;
 }
 
 -- what follows stays behind

@@ -55,7 +55,7 @@ conversed_quit m t v g0 g1 g2 at_end k0 k1 k2 u0 u1 u2 h0 h1 h2 f0 f1 f2 n pendi
       given = x.given ++ piece;
       commands = x.given ++ piece;
       ending = open';
-      has_quit = true;
+      quits = true;
       events = took.went.events;
       behind = command_lines y.0 open';
       gave = Grows-then g0 g1 g2 x.given piece x.gave g;
@@ -63,7 +63,7 @@ conversed_quit m t v g0 g1 g2 at_end k0 k1 k2 u0 u1 u2 h0 h1 h2 f0 f1 f2 n pendi
       ended = λ e. cc;
       leads = took.went.leads;
       lines = took_lines open' (x.given ++ piece) y.0 took.lines took.went.events took.split took.went.read (commands_joined open' took.lines y.0 took.each);
-      rests = (idle, (took.went.left refl).0, (took.went.left refl).1);
+      rests = (idle, (took.went.left refl).0, (took.went.left refl).1, (took.went.left refl).2);
       text = took.went.text;
       calls = took.went.calls;
       hung = took.went.hung;
@@ -80,7 +80,7 @@ conversed_fault m t g0 g1 g2 at_end k0 k1 u0 u1 h0 h1 f0 f1 n pending x g within
   given = x.given ++ [];
   commands = x.given ++ [];
   ending = fault;
-  has_quit = false;
+  quits = false;
   events = x.took.went.events;
   behind = [];
   gave = Grows-then g0 g1 g2 x.given [] x.gave g;
@@ -90,7 +90,7 @@ conversed_fault m t g0 g1 g2 at_end k0 k1 u0 u1 h0 h1 f0 f1 n pending x g within
   lines = ap (λ (b : List ℕ). command_lines b fault) (append-nil x.given)
       ∙ (took_lines fault x.given pending x.took.lines x.took.went.events x.took.split x.took.went.read (commands_joined fault x.took.lines pending x.took.each)
       ∙ ap (λ (l : List (List ℕ)). lines_in x.took.went.events ++ l) (commands_part fault pending nf));
-  rests = (idle, refl);
+  rests = (idle, refl, x.took.went.stays refl);
   text = x.took.went.text;
   calls = x.took.went.calls;
   hung = x.took.went.hung;
@@ -114,7 +114,7 @@ conversed_limit m t g0 g1 g2 at_end k0 k1 u0 u1 h0 h1 f0 f1 n pending piece x g 
       given = x.given ++ piece;
       commands = x.given;
       ending = limit;
-      has_quit = false;
+      quits = false;
       events = x.took.went.events;
       behind = [];
       gave = Grows-then g0 g1 g2 x.given piece x.gave g;
@@ -123,7 +123,7 @@ conversed_limit m t g0 g1 g2 at_end k0 k1 u0 u1 h0 h1 f0 f1 n pending piece x g 
       leads = x.took.went.leads;
       lines = took_lines limit x.given pending x.took.lines x.took.went.events x.took.split x.took.went.read (commands_joined limit x.took.lines pending x.took.each)
           ∙ ap (λ (l : List (List ℕ)). lines_in x.took.went.events ++ l) (commands_part limit pending nf);
-      rests = (idle, refl);
+      rests = (idle, refl, x.took.went.stays refl);
       text = x.took.went.text;
       calls = x.took.went.calls;
       hung = x.took.went.hung;
@@ -143,12 +143,12 @@ pub conversed_end : (m : Model) (t v : State) (g0 g1 g2 : Option (List ℕ)) (at
     → Talked m t g0 g1 k0 k1 u0 u1 h0 h1 f0 f1 n pending → Grows g1 g2 [] → n ≤ 16777216 → HasNoFeed pending → v.todo ≡ [] → at_end ≡ true → line ≡ pending
     → Ended m t v k1 k2 u1 u2 h1 h2 f1 f2 line f → Conversed m f v g0 g2 at_end k0 k2 u0 u2 h0 h2 f0 f2
 conversed_end m t v g0 g1 g2 at_end k0 k1 k2 u0 u1 u2 h0 h1 h2 f0 f1 f2 n pending line finish.Quit x g within nf idle ended e y =
-    let whole = went_then m first t v k0 k1 k2 u0 u1 u2 h0 h1 h2 f0 f1 f2 x.took.lines (last_part end line) false true x.took.went y.0 in
+    let whole = went_then m first t v k0 k1 k2 u0 u1 u2 h0 h1 h2 f0 f1 f2 x.took.lines (last_part end line) true x.took.went y.0 in
     record {
       given = x.given ++ [];
       commands = x.given ++ [];
       ending = end;
-      has_quit = true;
+      quits = true;
       events = whole.events;
       behind = [];
       gave = Grows-then g0 g1 g2 x.given [] x.gave g;
@@ -156,7 +156,7 @@ conversed_end m t v g0 g1 g2 at_end k0 k1 k2 u0 u1 u2 h0 h1 h2 f0 f1 f2 n pendin
       ended = λ _. ended;
       leads = whole.leads;
       lines = end_lines x.given pending line x.took.lines whole.events x.took.split (commands_joined end x.took.lines pending x.took.each) (commands_part end pending nf) e whole.read;
-      rests = (idle, (whole.left refl).0, (whole.left refl).1);
+      rests = (idle, (whole.left refl).0, (whole.left refl).1, (whole.left refl).2);
       text = whole.text;
       calls = whole.calls;
       hung = whole.hung;
@@ -165,12 +165,12 @@ conversed_end m t v g0 g1 g2 at_end k0 k1 k2 u0 u1 u2 h0 h1 h2 f0 f1 f2 n pendin
       status = λ failed. refl;
     }
 conversed_end m t v g0 g1 g2 at_end k0 k1 k2 u0 u1 u2 h0 h1 h2 f0 f1 f2 n pending line finish.End x g within nf idle ended e y =
-    let whole = went_then m first t v k0 k1 k2 u0 u1 u2 h0 h1 h2 f0 f1 f2 x.took.lines (last_part end line) false false x.took.went y.0 in
+    let whole = went_then m first t v k0 k1 k2 u0 u1 u2 h0 h1 h2 f0 f1 f2 x.took.lines (last_part end line) false x.took.went y.0 in
     record {
       given = x.given ++ [];
       commands = x.given ++ [];
       ending = end;
-      has_quit = false;
+      quits = false;
       events = whole.events;
       behind = [];
       gave = Grows-then g0 g1 g2 x.given [] x.gave g;
@@ -178,7 +178,7 @@ conversed_end m t v g0 g1 g2 at_end k0 k1 k2 u0 u1 u2 h0 h1 h2 f0 f1 f2 n pendin
       ended = λ _. ended;
       leads = whole.leads;
       lines = end_lines x.given pending line x.took.lines whole.events x.took.split (commands_joined end x.took.lines pending x.took.each) (commands_part end pending nf) e whole.read;
-      rests = (idle, refl);
+      rests = (idle, refl, whole.stays refl);
       text = whole.text;
       calls = whole.calls;
       hung = whole.hung;

@@ -82,6 +82,24 @@ abbrev pub has_fail : List Note → Bool
 has_fail [] = false
 has_fail (n ∷ ns) = is_fail n || has_fail ns
 
+-- whether a `quit` is among events
+abbrev pub is_quit : Doing → Bool
+is_quit (Say n) = false
+is_quit Dial = false
+is_quit Wait = false
+is_quit (Send v) = false
+is_quit HangUp = false
+is_quit Idle = false
+is_quit Quit = true
+
+abbrev pub has_quit : List Event → Bool
+has_quit [] = false
+has_quit (reads line ∷ es) = has_quit es
+has_quit (does' d ∷ es) = is_quit d || has_quit es
+has_quit (dials ok ∷ es) = has_quit es
+has_quit (waits h ∷ es) = has_quit es
+has_quit (sends v ok ∷ es) = has_quit es
+
 -- a note is among those written
 abbrev pub IsNoted : Note → List Note → Type 0
 IsNoted n [] = ⊥

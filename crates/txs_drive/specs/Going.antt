@@ -20,11 +20,11 @@ use Rattle.txs_drive.specs.declared.sign.Sign.{Sign}
 use Rattle.txs_drive.specs.declared.session.Session as rust
 use Rattle.txs_drive.specs.Session.{State, first, dialled_of, sign_of}
 use Rattle.txs_drive.specs.Ready.{IsBusy, IsTied, IsPlainRun, Keeps, state_of, rank}
-use Rattle.txs_drive.specs.Course.{Event, entry, does', Leads, lines_in, notes_in, text_of, hung_after, calls_in, AnyFailed}
+use Rattle.txs_drive.specs.Course.{Event, entry, does', Leads, lines_in, notes_in, text_of, has_quit, hung_after, calls_in, AnyFailed}
 
--- the last event is that the session ends
+-- the last event, and no other, is that the session ends
 abbrev pub IsLeft : List Event → Type 0
-IsLeft es = (before : List Event) × (es ≡ before ++ does' Quit ∷ [])
+IsLeft es = (before : List Event) × (es ≡ before ++ does' Quit ∷ []) × (has_quit before ≡ false)
 
 -- these events led from s to t, the lines were read, and the sink and the system had what comes of them; where q, the session ended
 pub record Went (m : Model) (s t : State) (k0 k1 : Option (List ℕ)) (u0 u1 : Option (List SutEntry)) (h0 h1 : Option ℕ) (f0 f1 : ℕ) (lines : List (List ℕ)) (q : Bool) : Type 0 where
@@ -37,6 +37,7 @@ pub record Went (m : Model) (s t : State) (k0 k1 : Option (List ℕ)) (u0 u1 : O
   pub later : f0 ≤ f1
   pub caused : AnyFailed events → Rose f0 f1
   pub left : q ≡ true → IsLeft events
+  pub stays : q ≡ false → has_quit events ≡ false
 
 -- a call of the system, and how it was answered
 pub record Called (m : Model) (s t : State) (u0 u1 : Option (List SutEntry)) (h0 h1 : Option ℕ) (f0 f1 : ℕ) : Type 0 where
@@ -44,6 +45,7 @@ pub record Called (m : Model) (s t : State) (u0 u1 : Option (List SutEntry)) (h0
   pub leads : Leads m s (event ∷ []) t
   pub read : lines_in (event ∷ []) ≡ []
   pub silent : notes_in (event ∷ []) ≡ []
+  pub stays : has_quit (event ∷ []) ≡ false
   pub calls : Adds u0 u1 (calls_in m (event ∷ []) h0)
   pub hung : h1 ≡ hung_after (event ∷ []) h0
   pub later : f0 ≤ f1
@@ -138,7 +140,7 @@ pub record Conversed (m : Model) (f : Finish) (t : State) (g0 g1 : Option (List 
   pub given : List ℕ
   pub commands : List ℕ
   pub ending : Ending
-  pub has_quit : Bool
+  pub quits : Bool
   pub events : List Event
   pub behind : List (List ℕ)
   pub gave : Grows g0 g1 given
@@ -146,10 +148,10 @@ pub record Conversed (m : Model) (f : Finish) (t : State) (g0 g1 : Option (List 
   pub ended : ending ≡ end → at_end ≡ true
   pub leads : Leads m first events t
   pub lines : command_lines commands ending ≡ lines_in events ++ behind
-  pub rests : Rests has_quit t behind events
+  pub rests : Rests quits t behind events
   pub text : Grows k0 k1 (text_of m (notes_in events))
   pub calls : Adds u0 u1 (calls_in m events h0)
   pub hung : h1 ≡ hung_after events h0
   pub later : f0 ≤ f1
   pub caused : AnyFailed events → Rose f0 f1
-  pub status : (failed : Bool) → status_of ending has_quit failed ≡ Some (code_of f failed)
+  pub status : (failed : Bool) → status_of ending quits failed ≡ Some (code_of f failed)

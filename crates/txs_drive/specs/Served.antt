@@ -8,7 +8,7 @@ use Rattle.txs_drive.specs.declared.model.Model.{Model}
 use Rattle.txs_drive.specs.declared.note.Note.TheVariants as note
 use Rattle.txs_drive.specs.declared.note.Ending.TheVariants.{Link}
 use Rattle.txs_drive.specs.Session.{State, first, dialled_of}
-use Rattle.txs_drive.specs.Course.{Event, does', Leads, lines_in, notes_in, text_of, has_fail, IsNoted, hung_after, calls_in}
+use Rattle.txs_drive.specs.Course.{Event, does', Leads, lines_in, notes_in, text_of, has_fail, has_quit, IsNoted, hung_after, calls_in}
 
 -- ---- command bytes
 
@@ -58,18 +58,23 @@ Gave fault given commands = (given ≡ commands) × (length commands ≤ byte_li
 
 -- ---- how a session comes to rest
 
--- all lines are carried out, or a `quit` was met; so the reference run does not stand still
+-- All lines are carried out and no `quit` was met, or the first `quit` is the last event; so the reference run
+-- neither stands still nor goes on behind a `quit`.
 abbrev pub Rests : Bool → State → List (List ℕ) → List Event → Type 0
-Rests false s more es = (s.todo ≡ []) × (more ≡ [])
-Rests true s more es = (s.todo ≡ []) × (before : List Event) × (es ≡ before ++ does' Quit ∷ [])
+Rests false s more es = (s.todo ≡ []) × (more ≡ []) × (has_quit es ≡ false)
+Rests true s more es = (s.todo ≡ []) × (before : List Event) × (es ≡ before ++ does' Quit ∷ []) × (has_quit before ≡ false)
 
--- the status by how the commands ended, whether a `quit` was met, and whether FAIL was written
+-- the status by how the commands ended, whether a `quit` was met, and whether FAIL was written; behind a `quit`
+-- nothing is read that fails or is past the limit
 abbrev pub by_fail : Bool → ℕ
 by_fail true = 10
 by_fail false = 0
 
 abbrev pub status_of : Ending → Bool → Bool → Option ℕ
-status_of e true failed = Some (by_fail failed)
+status_of open' true failed = Some (by_fail failed)
+status_of end true failed = Some (by_fail failed)
+status_of fault true failed = None
+status_of limit true failed = None
 status_of open' false failed = None
 status_of end false failed = Some (by_fail failed)
 status_of fault false failed = Some 3
@@ -89,7 +94,7 @@ pub record Served (m : Model) (g0 g1 : Option (List ℕ)) (at_end : Bool) (k0 k1
   pub given : List ℕ
   pub commands : List ℕ
   pub ending : Ending
-  pub has_quit : Bool
+  pub quits : Bool
   pub events : List Event
   pub behind : List (List ℕ)
   pub final : State
@@ -100,7 +105,7 @@ pub record Served (m : Model) (g0 g1 : Option (List ℕ)) (at_end : Bool) (k0 k1
   -- the reference run, which does not stand still
   pub leads : Leads m first events final
   pub lines : command_lines commands ending ≡ lines_in events ++ behind
-  pub rests : Rests has_quit final behind events
+  pub rests : Rests quits final behind events
   -- all that was written and called
   pub text : Grows k0 k1 (text_of m (notes_in events))
   pub calls : Adds u0 u1 (calls_in m events h0)
@@ -109,4 +114,4 @@ pub record Served (m : Model) (g0 g1 : Option (List ℕ)) (at_end : Bool) (k0 k1
   pub later : f0 ≤ f1
   pub link : IsNoted (note.Ended Link) (notes_in events) → Rose f0 f1
   -- 10 where FAIL was written, else 0; 3 after a read fault, and 6 at the limit of bytes
-  pub status : status_of ending has_quit (has_fail (notes_in events)) ≡ Some code
+  pub status : status_of ending quits (has_fail (notes_in events)) ≡ Some code

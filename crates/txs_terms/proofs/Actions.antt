@@ -1,5 +1,5 @@
 -- An action of one Int on one channel is an action where the channel is of Ints.
-use Rattle.std.proofs.Common.{◌≡◌, ℕ, ℤ, ◌^◌, List, [], ◌∷◌, true, sym, subst, FitsSigned}
+use Rattle.std.proofs.Common.{◌≡◌, ℕ, ℤ, ◌^◌, List, [], ◌∷◌, true, refl, sym, subst, FitsSigned}
 use Rattle.std.specs.Int.{w128}
 use Rattle.std.specs.Int.Signed.{mag}
 use Rattle.std.proofs.lemmas.Bool.Decides.{Decides-ltb}
@@ -16,4 +16,4 @@ int_types table ts v e h = subst (λ us. HaveTypes table (num v ∷ []) us) (sym
 
 pub int_action : (table : Table) (scope : Scope) (c : ℕ) (v : ℤ) → fits v ≡ true → IsInt scope c
     → IsAction table scope (record { channel = c; values = num v ∷ [] } ∷ [])
-int_action table scope c v h e = record { typed = (int_types table (types_on scope c) v e h, tt); ascending = (tt, tt) }
+int_action table scope c v h e = record { some = refl; typed = (int_types table (types_on scope c) v e h, tt); ascending = (tt, tt) }

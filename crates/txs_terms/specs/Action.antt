@@ -1,5 +1,5 @@
 -- Actions: a set of channels, ascending, each with its values.
-use Rattle.std.specs.Prelude.{ℕ, zero, suc, ◌<◌, Bool, true, false, ◌&&◌, ◌||◌, not, cond, eqb, ltb, List, [], ◌∷◌, ◌++◌, length}
+use Rattle.std.specs.Prelude.{◌≡◌, ℕ, zero, suc, ◌<◌, Bool, true, false, ◌&&◌, ◌||◌, not, cond, eqb, ltb, List, [], ◌∷◌, ◌++◌, length}
 use Rattle.txs_values.specs.Value.{Value, Ty, Table, HaveTypes}
 
 pub record Part : Type 0 where
@@ -108,7 +108,8 @@ abbrev pub IsTyped : Table → Scope → Action → Type 0
 IsTyped table scope [] = Unit {0}
 IsTyped table scope (p ∷ ps) = HaveTypes table p.values (types_on scope p.channel) × IsTyped table scope ps
 
--- ascending channels, each with values of its types
+-- one or more channels, ascending, each with values of its types
 pub record IsAction (table : Table) (scope : Scope) (a : Action) : Type 0 where
+  pub some : is_empty (channels a) ≡ false
   pub typed : IsTyped table scope a
   pub ascending : Ascending (channels a)

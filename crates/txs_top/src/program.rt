@@ -27,6 +27,7 @@ fn run<F: Files, S: Source, K: Sink, U: Sut>(
     ensures refused { (bytes : List ℕ) → F.contents files.old file.now ≡ Some bytes → length bytes ≤ 1048576 → IsNoFile bytes
         → (result.code ≡ 2) ⊎ (result.code ≡ 4) ⊎ (result.code ≡ 5) ⊎ (result.code ≡ 3) × Rose (F.faults files.old) (F.faults files.new) }
     ensures refused_only { result.code ≡ 2 → (bytes : List ℕ) × Tells (F.contents files.old file.now) bytes × IsNoFile bytes }
+    ensures refused_unread { (bytes : List ℕ) → F.contents files.old file.now ≡ Some bytes → IsNoFile bytes → (source.new ≡ source.old) × (sut.new ≡ sut.old) }
     ensures refused_line { result.code ≡ 2 → Grows (K.taken sink.old) (K.taken sink.new) (codes "REFUSED Later 0\n") }
     ensures refused_alone { result.code ≡ 2 → (source.new ≡ source.old) × (sut.new ≡ sut.old) }
     ensures read { result.code ≡ 3 →
@@ -42,6 +43,8 @@ fn run<F: Files, S: Source, K: Sink, U: Sut>(
         (U.calls sut.old) (U.calls sut.new) (U.hang_ups sut.old) (U.hang_ups sut.new) (U.faults sut.old) (U.faults sut.new) result.code }
     ensures file_limit { (bytes : List ℕ) → F.contents files.old file.now ≡ Some bytes → 1048576 < length bytes
         → (result.code ≡ 6) ⊎ (result.code ≡ 5) ⊎ (result.code ≡ 3) × Rose (F.faults files.old) (F.faults files.new) }
+    ensures long_unread { (bytes : List ℕ) → F.contents files.old file.now ≡ Some bytes → 1048576 < length bytes
+        → (source.new ≡ source.old) × (sink.new ≡ sink.old) × (sut.new ≡ sut.old) }
     ensures known { (result.code ≡ 0) ⊎ (result.code ≡ 10) ⊎ (result.code ≡ 2) ⊎ (result.code ≡ 3) ⊎ (result.code ≡ 4) ⊎ (result.code ≡ 5) ⊎ (result.code ≡ 6) }
 {
     match files.read_all(alloc, file) {
@@ -74,16 +77,20 @@ pub fn top<F: Files, S: Source, K: Sink, U: Sut>(
         (S.given source.old) (S.given source.new) (S.at_end source.new) (K.taken sink.old) (K.taken sink.new)
         (U.calls sut.old) (U.calls sut.new) (U.hang_ups sut.old) (U.hang_ups sut.new) (U.faults sut.old) (U.faults sut.new) result.code }
 
-    // Status 1 stands exactly where the words fit no form; then the usage line is written and nothing else is done.
+    // Status 1 stands exactly where the words fit no form, but for a fault of the sink; then the usage line is written
+    // and nothing else is done.
     ensures usage { IsNoForm (map string_bytes words.now) → (result.code ≡ 1) ⊎ (result.code ≡ 4) }
     ensures usage_only { result.code ≡ 1 → IsNoForm (map string_bytes words.now) }
     ensures usage_line { result.code ≡ 1 → Grows (K.taken sink.old) (K.taken sink.new) (codes "usage: txs run FILE\n") }
     ensures usage_alone { IsNoForm (map string_bytes words.now) → (files.new ≡ files.old) × (source.new ≡ source.old) × (sut.new ≡ sut.old) }
 
-    // Status 2 stands exactly where the file is not of the form; then the refusal is written and nothing else is done.
+    // Status 2 stands exactly where the file is not of the form, but for a fault or want of memory; then the refusal is
+    // written and nothing else is done.
     ensures refused { (file : List ℕ) (bytes : List ℕ) → IsRun (map string_bytes words.now) file → F.contents files.old file ≡ Some bytes → length bytes ≤ 1048576 → IsNoFile bytes
         → (result.code ≡ 2) ⊎ (result.code ≡ 4) ⊎ (result.code ≡ 5) ⊎ (result.code ≡ 3) × Rose (F.faults files.old) (F.faults files.new) }
     ensures refused_only { result.code ≡ 2 → (bytes : List ℕ) × Asked (map string_bytes words.now) (F.contents files.old) bytes × IsNoFile bytes }
+    ensures refused_unread { (file : List ℕ) (bytes : List ℕ) → IsRun (map string_bytes words.now) file → F.contents files.old file ≡ Some bytes → IsNoFile bytes
+        → (source.new ≡ source.old) × (sut.new ≡ sut.old) }
     ensures refused_line { result.code ≡ 2 → Grows (K.taken sink.old) (K.taken sink.new) (codes "REFUSED Later 0\n") }
     ensures refused_alone { result.code ≡ 2 → (source.new ≡ source.old) × (sut.new ≡ sut.old) }
 
@@ -97,7 +104,8 @@ pub fn top<F: Files, S: Source, K: Sink, U: Sut>(
     // Status 4 stands only where the sink's count rose.
     ensures write { result.code ≡ 4 → Rose (K.faults sink.old) (K.faults sink.new) }
 
-    // Status 6 stands exactly where the file is too long, or a byte past the limit of commands was read.
+    // Status 6 stands exactly where the file is too long or a byte past the limit of commands was read, but for a fault
+    // or want of memory.
     ensures limit { result.code ≡ 6 →
         IsTooLong (map string_bytes words.now) (F.contents files.old) × (source.new ≡ source.old) × (sink.new ≡ sink.old) × (sut.new ≡ sut.old)
         ⊎ Ran (map string_bytes words.now) (F.contents files.old)
@@ -105,6 +113,8 @@ pub fn top<F: Files, S: Source, K: Sink, U: Sut>(
         (U.calls sut.old) (U.calls sut.new) (U.hang_ups sut.old) (U.hang_ups sut.new) (U.faults sut.old) (U.faults sut.new) result.code }
     ensures file_limit { (file : List ℕ) (bytes : List ℕ) → IsRun (map string_bytes words.now) file → F.contents files.old file ≡ Some bytes → 1048576 < length bytes
         → (result.code ≡ 6) ⊎ (result.code ≡ 5) ⊎ (result.code ≡ 3) × Rose (F.faults files.old) (F.faults files.new) }
+    ensures long_unread { (file : List ℕ) (bytes : List ℕ) → IsRun (map string_bytes words.now) file → F.contents files.old file ≡ Some bytes → 1048576 < length bytes
+        → (source.new ≡ source.old) × (sink.new ≡ sink.old) × (sut.new ≡ sut.old) }
 
     // No other status is given.
     ensures known { (result.code ≡ 0) ⊎ (result.code ≡ 10) ⊎ (result.code ≡ 1) ⊎ (result.code ≡ 2) ⊎ (result.code ≡ 3) ⊎ (result.code ≡ 4) ⊎ (result.code ≡ 5) ⊎ (result.code ≡ 6) }

@@ -21,14 +21,14 @@ steps-preserved g c =
     let went = rw c.in-GoesOn.is at c.in_ok-step.ensures.went in
     let ahead = rw c.in-GoesOn.is at c.in_ok-step.ensures.ahead in
     record {
-      went = went_then _ _ _ _ _ _ _ _ _ _ _ _ _ _ _ _ _ _ _ _ c.steps.invariant.went went;
+      went = went_then _ _ _ _ _ _ _ _ _ _ _ _ _ _ _ _ _ _ _ c.steps.invariant.went went;
       ready = c.in_ok-step.ensures.ready;
       busy = ahead.0;
       later = omega (arith, c.steps.invariant.later, c.in_ok-step.ensures.sink.later);
     }
 
 pub returns-in-Idle-clause-went : goal.returns-in-Idle-clause-went
-returns-in-Idle-clause-went g c = let went = rw c.in-Idle.is at c.in_ok-step.ensures.went in went_then _ _ _ _ _ _ _ _ _ _ _ _ _ _ _ _ _ _ _ _ c.steps.invariant.went went
+returns-in-Idle-clause-went g c = let went = rw c.in-Idle.is at c.in_ok-step.ensures.went in went_then _ _ _ _ _ _ _ _ _ _ _ _ _ _ _ _ _ _ _ c.steps.invariant.went went
 
 pub returns-in-Quit-clause-went : goal.returns-in-Quit-clause-went
-returns-in-Quit-clause-went g c = let went = rw c.in-Quit.is at c.in_ok-step.ensures.went in went_then _ _ _ _ _ _ _ _ _ _ _ _ _ _ _ _ _ _ _ _ c.steps.invariant.went went
+returns-in-Quit-clause-went g c = let went = rw c.in-Quit.is at c.in_ok-step.ensures.went in went_then _ _ _ _ _ _ _ _ _ _ _ _ _ _ _ _ _ _ _ c.steps.invariant.went went

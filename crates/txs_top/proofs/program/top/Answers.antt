@@ -58,3 +58,15 @@ returns-clause-file_limit g c file bytes words told long =
     let both = pair-is _ (string_bytes {Z = Global}) c.args.words.now c.word-item.result c.file-item.result c.in-len2.len_at_least c.in-len2.len_below c.word-item.is c.file-item.is in
     let same = second-is _ _ _ _ (sym both ∙ words) in
     c.run.ensures.file_limit bytes (subst (λ (q : List ℕ). g.F.Files.contents c.args.files.now q ≡ Some bytes) (sym (c.as_str-2.ensures.value ∙ same)) told) long
+
+pub returns-clause-refused_unread : goal.returns-clause-refused_unread
+returns-clause-refused_unread g c file bytes words told m =
+    let both = pair-is _ (string_bytes {Z = Global}) c.args.words.now c.word-item.result c.file-item.result c.in-len2.len_at_least c.in-len2.len_below c.word-item.is c.file-item.is in
+    let same = second-is _ _ _ _ (sym both ∙ words) in
+    c.run.ensures.refused_unread bytes (subst (λ (q : List ℕ). g.F.Files.contents c.args.files.now q ≡ Some bytes) (sym (c.as_str-2.ensures.value ∙ same)) told) m
+
+pub returns-clause-long_unread : goal.returns-clause-long_unread
+returns-clause-long_unread g c file bytes words told long =
+    let both = pair-is _ (string_bytes {Z = Global}) c.args.words.now c.word-item.result c.file-item.result c.in-len2.len_at_least c.in-len2.len_below c.word-item.is c.file-item.is in
+    let same = second-is _ _ _ _ (sym both ∙ words) in
+    c.run.ensures.long_unread bytes (subst (λ (q : List ℕ). g.F.Files.contents c.args.files.now q ≡ Some bytes) (sym (c.as_str-2.ensures.value ∙ same)) told) long
