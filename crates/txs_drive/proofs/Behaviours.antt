@@ -1,38 +1,17 @@
 -- What is read of the words of a behaviour is what they spell.
-use Rattle.std.proofs.Common.{◌≡◌, ◌⊎◌, inl, inr, ℕ, suc, ℤ, pos, ◌+◌, ◌-◌, ◌<◌, ◌≤◌, ◌^◌, Bool, true, false, cond, ◌&&◌, nat_lt, List, [], ◌∷◌, ◌++◌, length, take, drop, get_or, take_all, length-append, Option, Some, None, refl, sym, ◌∙◌, ap, subst, arith, codes, bytes_eq}
+use Rattle.std.proofs.Common.{◌≡◌, ◌⊎◌, inl, inr, ℕ, zero, suc, ℤ, pos, ◌+◌, ◌*◌, ◌<◌, ◌≤◌, ◌^◌, Bool, true, false, cond, ◌&&◌, nat_lt, List, [], ◌∷◌, ◌++◌, length, length-append, append_assoc, append-nil, Option, Some, None, refl, sym, ◌∙◌, ap, subst, arith, codes, bytes_eq}
 use Rattle.std.proofs.lemmas.Bool.Decides.{Decides-ltb, nat_tests}
 use Rattle.std.specs.List.{list_all}
 use Rattle.std.specs.Str.Parse.{digits_value}
 use Rattle.txs_values.specs.Spelling.{is_digit, is_letter, is_name_byte}
 use Rattle.txs_values.specs.Value.{num, fits}
 use Rattle.txs_terms.specs.Expr.{Expr, val, slot}
-use Rattle.txs_terms.specs.Term.{Position, give, take as taking, Term, stop, prefix}
+use Rattle.txs_terms.specs.Term.{Position, give, take as taking, Term, stop, prefix, choice}
 use Rattle.txs_terms.specs.Sets.{IsPlain}
-use Rattle.txs_drive.specs.Form.{has_byte, is_worded, is_name, IsName, slot_from, slot_of, IsChannel, IsNumber, offer, Spells, stops, takes, gives_number, gives_variable}
-use Rattle.txs_drive.specs.Reading.{are_digits, number_read, name_read, as_number, as_slot, as_taken, as_given, expr_read, position_read, binder, channel_read, prefixed, step_read, stop_read, behaviour_read}
+use Rattle.txs_drive.specs.Form.{has_byte, is_worded, is_name, IsName, slot_from, slot_of, IsChannel, IsNumber, offer, Binding, tight, loose, Spells, stops, takes, gives_number, gives_variable, groups, alone, chooses}
+use Rattle.txs_drive.specs.Reading.{are_digits, number_read, name_read, as_number, as_slot, as_taken, as_given, expr_read, position_read, binder, channel_read, Front, Reader, prefixed, step_read, prefix_read, closed, grouped, beside, choice_read, chosen, front_read, entire, behaviour_read}
 use Rattle.txs_drive.proofs.Digits.{digits-here, digits-numeral}
 use Rattle.txs_drive.proofs.Tests.{by-test, and-both, both-and, eq-bytes, bytes-eq, ne-bytes, yes, no}
-
--- what is read of four words and more
-pub behaviour-step : (i o : List ℕ) (bound ws : List (List ℕ)) (n s w a n' s' w' a' : List ℕ) (rest : List (List ℕ)) → 4 ≤ length ws
-    → n ≡ get_or ws 0 n → s ≡ get_or ws 1 s → w ≡ get_or ws 2 w → a ≡ get_or ws 3 a → n' ≡ n → s' ≡ s → w' ≡ w → a' ≡ a → rest ≡ take (length ws - 4) (drop 4 ws) → a' ≡ codes ">->"
-    → behaviour_read i o bound ws ≡ step_read (channel_read i o n') (position_read bound s' w') (λ p. behaviour_read i o (bound ++ binder p ∷ []) rest)
-behaviour-step i o bound [] n s w a n' s' w' a' rest k e0 e1 e2 e3 f0 f1 f2 f3 er ea = absurd (omega arith)
-behaviour-step i o bound (x ∷ []) n s w a n' s' w' a' rest k e0 e1 e2 e3 f0 f1 f2 f3 er ea = absurd (omega arith)
-behaviour-step i o bound (x ∷ y ∷ []) n s w a n' s' w' a' rest k e0 e1 e2 e3 f0 f1 f2 f3 er ea = absurd (omega arith)
-behaviour-step i o bound (x ∷ y ∷ z ∷ []) n s w a n' s' w' a' rest k e0 e1 e2 e3 f0 f1 f2 f3 er ea = absurd (omega arith)
-behaviour-step i o bound (x ∷ y ∷ z ∷ v ∷ more) n s w a n' s' w' a' rest k e0 e1 e2 e3 f0 f1 f2 f3 er ea =
-    let g0 : x ≡ n' = sym (f0 ∙ e0) in
-    let g1 : y ≡ s' = sym (f1 ∙ e1) in
-    let g2 : z ≡ w' = sym (f2 ∙ e2) in
-    let g3 : v ≡ codes ">->" = sym (f3 ∙ e3) ∙ ea in
-    let len : length (x ∷ y ∷ z ∷ v ∷ more) - 4 ≡ length more = omega arith in
-    let gr : more ≡ rest = sym (er ∙ (ap (λ (k : ℕ). take k more) len ∙ take_all (length more) more (omega arith))) in
-    yes (bytes_eq v (codes ">->")) (step_read (channel_read i o x) (position_read bound y z) (λ p. behaviour_read i o (bound ++ binder p ∷ []) more)) None (bytes-eq v (codes ">->") g3)
-    ∙ (ap (λ (q : List ℕ). step_read (channel_read i o q) (position_read bound y z) (λ p. behaviour_read i o (bound ++ binder p ∷ []) more)) g0
-    ∙ (ap (λ (q : List ℕ). step_read (channel_read i o n') (position_read bound q z) (λ p. behaviour_read i o (bound ++ binder p ∷ []) more)) g1
-    ∙ (ap (λ (q : List ℕ). step_read (channel_read i o n') (position_read bound s' q) (λ p. behaviour_read i o (bound ++ binder p ∷ []) more)) g2
-    ∙ ap (λ (q : List (List ℕ)). step_read (channel_read i o n') (position_read bound s' w') (λ p. behaviour_read i o (bound ++ binder p ∷ []) q)) gr)))
 
 -- ---- what is read is spelled
 
@@ -99,48 +78,143 @@ channel-spelled i o name c h = elim (by-test (bytes_eq name i) (Some 0) (cond (b
   ]
 ]
 
-prefix-spelled : (i o : List ℕ) (bound more : List (List ℕ)) (c : ℕ) (name s w : List ℕ) (p : Position) (t : Term) → IsChannel i o c name → SpellsPosition bound s w p → Spells i o (bound ++ binder p ∷ []) t more
-    → Spells i o bound (prefix (offer c p) [] t) (name ∷ s ∷ w ∷ codes ">->" ∷ more)
+prefix-spelled : (i o : List ℕ) (bound more : List (List ℕ)) (c : ℕ) (name s w : List ℕ) (p : Position) (t : Term) → IsChannel i o c name → SpellsPosition bound s w p → Spells i o tight (bound ++ binder p ∷ []) t more
+    → Spells i o tight bound (prefix (offer c p) [] t) (name ∷ s ∷ w ∷ codes ">->" ∷ more)
 prefix-spelled i o bound more c name s w (taking x) t ch h r =
-    subst (λ (z : List ℕ). Spells i o bound (prefix (offer c (taking x)) [] t) (name ∷ z ∷ w ∷ codes ">->" ∷ more)) (sym h.0)
-    (subst (λ (z : List ℕ). Spells i o bound (prefix (offer c (taking x)) [] t) (name ∷ codes "?" ∷ z ∷ codes ">->" ∷ more)) h.1 (takes c name x ch (subst IsName (sym h.1) h.2) r))
+    subst (λ (z : List ℕ). Spells i o tight bound (prefix (offer c (taking x)) [] t) (name ∷ z ∷ w ∷ codes ">->" ∷ more)) (sym h.0)
+    (subst (λ (z : List ℕ). Spells i o tight bound (prefix (offer c (taking x)) [] t) (name ∷ codes "?" ∷ z ∷ codes ">->" ∷ more)) h.1 (takes c name x ch (subst IsName (sym h.1) h.2) r))
 prefix-spelled i o bound more c name s w (give (val (num n))) t ch h r =
-    subst (λ (z : List ℕ). Spells i o bound (prefix (offer c (give (val (num n)))) [] t) (name ∷ z ∷ w ∷ codes ">->" ∷ more)) (sym h.0) (gives_number c name w n ch h.1 r)
+    subst (λ (z : List ℕ). Spells i o tight bound (prefix (offer c (give (val (num n)))) [] t) (name ∷ z ∷ w ∷ codes ">->" ∷ more)) (sym h.0) (gives_number c name w n ch h.1 r)
 prefix-spelled i o bound more c name s w (give (slot k)) t ch h r =
-    subst (λ (z : List ℕ). Spells i o bound (prefix (offer c (give (slot k))) [] t) (name ∷ z ∷ w ∷ codes ">->" ∷ more)) (sym h.0) (gives_variable c name w k ch h.1 h.2 r)
+    subst (λ (z : List ℕ). Spells i o tight bound (prefix (offer c (give (slot k))) [] t) (name ∷ z ∷ w ∷ codes ">->" ∷ more)) (sym h.0) (gives_variable c name w k ch h.1 h.2 r)
 prefix-spelled i o bound more c name s w (give _) t ch h r = absurd h
 
-prefixed-is : (c : ℕ) (p : Position) (r : Option Term) (t : Term) → prefixed c p r ≡ Some t → (u : Term) × (r ≡ Some u) × (t ≡ prefix (offer c p) [] u)
-prefixed-is c p None t h = absurd (cc)
-prefixed-is c p (Some u) t h = (u, refl, cc)
+prefixed-is : (c : ℕ) (p : Position) (r : Option Front) (t : Term) (rest : List (List ℕ)) → prefixed c p r ≡ Some (t, rest) → (u : Term) × (r ≡ Some (u, rest)) × (t ≡ prefix (offer c p) [] u)
+prefixed-is c p None t rest h = absurd (cc)
+prefixed-is c p (Some f) t rest h =
+    let e : (prefix (offer c p) [] f.0, f.1) ≡ (t, rest) = cc in
+    (f.0, ap (λ (z : List (List ℕ)). Some (f.0, z)) (ap (λ (z : Front). z.1) e), sym (ap (λ (z : Front). z.0) e))
 
-step-is : (oc : Option ℕ) (op : Option Position) (k : Position → Option Term) (t : Term) → step_read oc op k ≡ Some t
-    → (c : ℕ) × (p : Position) × (u : Term) × (oc ≡ Some c) × (op ≡ Some p) × (k p ≡ Some u) × (t ≡ prefix (offer c p) [] u)
-step-is None op k t h = absurd (cc)
-step-is (Some c) None k t h = absurd (cc)
-step-is (Some c) (Some p) k t h = let g = prefixed-is c p (k p) t h in (c, p, g.0, refl, refl, g.1, g.2)
+step-is : (oc : Option ℕ) (op : Option Position) (k : Position → Option Front) (t : Term) (rest : List (List ℕ)) → step_read oc op k ≡ Some (t, rest)
+    → (c : ℕ) × (p : Position) × (u : Term) × (oc ≡ Some c) × (op ≡ Some p) × (k p ≡ Some (u, rest)) × (t ≡ prefix (offer c p) [] u)
+step-is None op k t rest h = absurd (cc)
+step-is (Some c) None k t rest h = absurd (cc)
+step-is (Some c) (Some p) k t rest h = let g = prefixed-is c p (k p) t rest h in (c, p, g.0, refl, refl, g.1, g.2)
 
-stop-is : (w : List ℕ) (t : Term) → stop_read w ≡ Some t → (w ≡ codes "STOP") × (t ≡ stop)
-stop-is w t h = elim (by-test (bytes_eq w (codes "STOP")) (Some stop) None (Some t) h) [
-  | inl d ↦ let z : t ≡ stop = cc in (eq-bytes w (codes "STOP") d.0, z)
+closed-is : (u : Term) (ws : List (List ℕ)) (t : Term) (rest : List (List ℕ)) → closed u ws ≡ Some (t, rest) → (t ≡ u) × (ws ≡ codes ")" ∷ rest)
+closed-is u [] t rest h = absurd (cc)
+closed-is u (w ∷ ws) t rest h = elim (by-test (bytes_eq w (codes ")")) (Some (u, ws)) None (Some (t, rest)) h) [
+  | inl d ↦
+      let e : (u, ws) ≡ (t, rest) = cc in
+      (sym (ap (λ (z : Front). z.0) e), ap (λ (z : List ℕ). z ∷ ws) (eq-bytes w (codes ")") d.0) ∙ ap (λ (z : Front). codes ")" ∷ z.1) e)
   | inr d ↦ absurd (cc)
 ]
 
-pub read-spells : (i o : List ℕ) (bound ws : List (List ℕ)) (t : Term) → behaviour_read i o bound ws ≡ Some t → Spells i o bound t ws
-read-spells i o bound [] t h = absurd (cc)
-read-spells i o bound (w ∷ []) t h =
-    let g = stop-is w t h in
-    subst (λ (z : Term). Spells i o bound z (w ∷ [])) (sym g.1) (subst (λ (z : List ℕ). Spells i o bound stop (z ∷ [])) (sym g.0) stops)
-read-spells i o bound (n ∷ s ∷ []) t h = absurd (cc)
-read-spells i o bound (n ∷ s ∷ w ∷ []) t h = absurd (cc)
-read-spells i o bound (n ∷ s ∷ w ∷ a ∷ more) t h =
-    elim (by-test (bytes_eq a (codes ">->")) (step_read (channel_read i o n) (position_read bound s w) (λ p. behaviour_read i o (bound ++ binder p ∷ []) more)) None (Some t) h) [
-      | inl d ↦ let g = step-is (channel_read i o n) (position_read bound s w) (λ p. behaviour_read i o (bound ++ binder p ∷ []) more) t d.1 in
-          subst (λ (z : Term). Spells i o bound z (n ∷ s ∷ w ∷ a ∷ more)) (sym g.6)
-          (subst (λ (z : List ℕ). Spells i o bound (prefix (offer g.0 g.1) [] g.2) (n ∷ s ∷ w ∷ z ∷ more)) (sym (eq-bytes a (codes ">->") d.0))
-          (prefix-spelled i o bound more g.0 n s w g.1 g.2 (channel-spelled i o n g.0 g.3) (position-spelled bound s w g.1 g.4) (read-spells i o (bound ++ binder g.1 ∷ []) more g.2 g.5)))
+grouped-is : (r : Option Front) (t : Term) (rest : List (List ℕ)) → grouped r ≡ Some (t, rest) → r ≡ Some (t, codes ")" ∷ rest)
+grouped-is None t rest h = absurd (cc)
+grouped-is (Some f) t rest h = let g = closed-is f.0 f.1 t rest h in
+    ap (λ (z : Term). Some (z, f.1)) (sym g.0) ∙ ap (λ (z : List (List ℕ)). Some (t, z)) g.1
+
+beside-is : (a : Term) (r : Option Front) (t : Term) (rest : List (List ℕ)) → beside a r ≡ Some (t, rest) → (b : Term) × (r ≡ Some (b, rest)) × (t ≡ choice a b)
+beside-is a None t rest h = absurd (cc)
+beside-is a (Some f) t rest h =
+    let e : (choice a f.0, f.1) ≡ (t, rest) = cc in
+    (f.0, ap (λ (z : List (List ℕ)). Some (f.0, z)) (ap (λ (z : Front). z.1) e), sym (ap (λ (z : Front). z.0) e))
+
+-- the left side alone, or a choice
+choice-is : (loosely : List (List ℕ) → Option Front) (a : Term) (ws : List (List ℕ)) (t : Term) (rest : List (List ℕ)) → choice_read loosely a ws ≡ Some (t, rest)
+    → ((t ≡ a) × (ws ≡ rest)) ⊎ ((b : Term) × (more : List (List ℕ)) × (ws ≡ codes "##" ∷ more) × (loosely more ≡ Some (b, rest)) × (t ≡ choice a b))
+choice-is loosely a [] t rest h =
+    let e : (a, []) ≡ (t, rest) = cc in
+    inl (sym (ap (λ (z : Front). z.0) e), ap (λ (z : Front). z.1) e)
+choice-is loosely a (w ∷ ws) t rest h = elim (by-test (bytes_eq w (codes "##")) (beside a (loosely ws)) (Some (a, w ∷ ws)) (Some (t, rest)) h) [
+  | inl d ↦ let g = beside-is a (loosely ws) t rest d.1 in inr (g.0, ws, ap (λ (z : List ℕ). z ∷ ws) (eq-bytes w (codes "##") d.0), g.1, g.2)
+  | inr d ↦ let e : (a, w ∷ ws) ≡ (t, rest) = cc in inl (sym (ap (λ (z : Front). z.0) e), ap (λ (z : Front). z.1) e)
+]
+
+chosen-is : (loosely : List (List ℕ) → Option Front) (r : Option Front) (t : Term) (rest : List (List ℕ)) → chosen loosely r ≡ Some (t, rest)
+    → (a : Term) × (ws : List (List ℕ)) × (r ≡ Some (a, ws)) × (choice_read loosely a ws ≡ Some (t, rest))
+chosen-is loosely None t rest h = absurd (cc)
+chosen-is loosely (Some f) t rest h = (f.0, f.1, refl, h)
+
+-- the front of the words spells the term, and these are behind it
+abbrev pub Fronts : List ℕ → List ℕ → Binding → List (List ℕ) → List (List ℕ) → Term → List (List ℕ) → Type 0
+Fronts i o b bound ws t rest = (taken : List (List ℕ)) × (ws ≡ taken ++ rest) × Spells i o b bound t taken
+
+-- what each call of a reader spells
+abbrev pub Sound : List ℕ → List ℕ → Binding → Reader → Type 0
+Sound i o b reader = (bound ws : List (List ℕ)) (t : Term) (rest : List (List ℕ)) → reader bound ws ≡ Some (t, rest) → Fronts i o b bound ws t rest
+
+stop-fronts : (i o : List ℕ) (bound : List (List ℕ)) (w : List ℕ) (ws : List (List ℕ)) (t : Term) (rest : List (List ℕ)) → w ≡ codes "STOP" → ◌≡◌ {A = Option Front} (Some (stop, ws)) (Some (t, rest)) → Fronts i o tight bound (w ∷ ws) t rest
+stop-fronts i o bound w ws t rest e h =
+    let q : (stop, ws) ≡ (t, rest) = cc in
+    subst (λ (z : Term). Fronts i o tight bound (w ∷ ws) z rest) (ap (λ (z : Front). z.0) q)
+    (codes "STOP" ∷ [], ap (λ (z : List ℕ). z ∷ ws) e ∙ ap (λ (z : Front). codes "STOP" ∷ z.1) q, stops)
+
+group-fronts : (i o : List ℕ) (bound : List (List ℕ)) (w : List ℕ) (ws : List (List ℕ)) (t : Term) (rest : List (List ℕ)) → w ≡ codes "(" → Fronts i o loose bound ws t (codes ")" ∷ rest) → Fronts i o tight bound (w ∷ ws) t rest
+group-fronts i o bound w ws t rest e f = (
+  codes "(" ∷ f.0 ++ codes ")" ∷ [],
+  ap (λ (z : List ℕ). z ∷ ws) e ∙ ap (λ (z : List (List ℕ)). codes "(" ∷ z) (f.1 ∙ sym (append_assoc f.0 (codes ")" ∷ []) rest)),
+  groups f.2,
+)
+
+prefix-fronts : (i o : List ℕ) (tightly : Reader) → Sound i o tight tightly → (bound : List (List ℕ)) (n : List ℕ) (ws : List (List ℕ)) (t : Term) (rest : List (List ℕ)) → prefix_read tightly i o bound n ws ≡ Some (t, rest) → Fronts i o tight bound (n ∷ ws) t rest
+prefix-fronts i o tightly sound bound n [] t rest h = absurd (cc)
+prefix-fronts i o tightly sound bound n (s ∷ []) t rest h = absurd (cc)
+prefix-fronts i o tightly sound bound n (s ∷ w ∷ []) t rest h = absurd (cc)
+prefix-fronts i o tightly sound bound n (s ∷ w ∷ a ∷ more) t rest h =
+    elim (by-test (bytes_eq a (codes ">->")) (step_read (channel_read i o n) (position_read bound s w) (λ p. tightly (bound ++ binder p ∷ []) more)) None (Some (t, rest)) h) [
+      | inl d ↦ let g = step-is (channel_read i o n) (position_read bound s w) (λ p. tightly (bound ++ binder p ∷ []) more) t rest d.1 in
+          let f = sound (bound ++ binder g.1 ∷ []) more g.2 rest g.5 in
+          subst (λ (z : Term). Fronts i o tight bound (n ∷ s ∷ w ∷ a ∷ more) z rest) (sym g.6) (
+            n ∷ s ∷ w ∷ codes ">->" ∷ f.0,
+            ap (λ (z : List ℕ). n ∷ s ∷ w ∷ z ∷ more) (eq-bytes a (codes ">->") d.0) ∙ ap (λ (z : List (List ℕ)). n ∷ s ∷ w ∷ codes ">->" ∷ z) f.1,
+            prefix-spelled i o bound f.0 g.0 n s w g.1 g.2 (channel-spelled i o n g.0 g.3) (position-spelled bound s w g.1 g.4) f.2,
+          )
       | inr d ↦ absurd (cc)
     ]
+
+choice-fronts : (i o : List ℕ) (bound ws : List (List ℕ)) (t : Term) (rest : List (List ℕ)) (a b : Term) (behind more : List (List ℕ))
+    → Fronts i o tight bound ws a behind → behind ≡ codes "##" ∷ more → Fronts i o loose bound more b rest → t ≡ choice a b → Fronts i o loose bound ws t rest
+choice-fronts i o bound ws t rest a b behind more f e g q =
+    subst (λ (z : Term). Fronts i o loose bound ws z rest) (sym q) (
+      f.0 ++ codes "##" ∷ g.0,
+      f.1 ∙ (ap (λ (z : List (List ℕ)). f.0 ++ z) (e ∙ ap (λ (z : List (List ℕ)). codes "##" ∷ z) g.1) ∙ sym (append_assoc f.0 (codes "##" ∷ g.0) rest)),
+      chooses f.2 g.2,
+    )
+
+alone-fronts : (i o : List ℕ) (bound ws : List (List ℕ)) (t a : Term) (behind rest : List (List ℕ)) → Fronts i o tight bound ws a behind → t ≡ a → behind ≡ rest → Fronts i o loose bound ws t rest
+alone-fronts i o bound ws t a behind rest f e q =
+    subst (λ (z : Term). Fronts i o loose bound ws z rest) (sym e) (f.0, f.1 ∙ ap (λ (z : List (List ℕ)). f.0 ++ z) q, alone f.2)
+
+front-spells : (k : ℕ) (b : Binding) (i o : List ℕ) → Sound i o b (front_read k b i o)
+front-spells zero b i o bound ws t rest h = absurd (cc)
+front-spells (suc k) tight i o bound [] t rest h = absurd (cc)
+front-spells (suc k) tight i o bound (w ∷ ws) t rest h =
+    elim (by-test (bytes_eq w (codes "STOP")) (Some (stop, ws)) (cond (bytes_eq w (codes "(")) (grouped (front_read k loose i o bound ws)) (prefix_read (front_read k tight i o) i o bound w ws)) (Some (t, rest)) h) [
+      | inl d ↦ stop-fronts i o bound w ws t rest (eq-bytes w (codes "STOP") d.0) d.1
+      | inr d ↦ elim (by-test (bytes_eq w (codes "(")) (grouped (front_read k loose i o bound ws)) (prefix_read (front_read k tight i o) i o bound w ws) (Some (t, rest)) d.1) [
+        | inl e ↦ group-fronts i o bound w ws t rest (eq-bytes w (codes "(") e.0) (front-spells k loose i o bound ws t (codes ")" ∷ rest) (grouped-is (front_read k loose i o bound ws) t rest e.1))
+        | inr e ↦ prefix-fronts i o (front_read k tight i o) (front-spells k tight i o) bound w ws t rest e.1
+      ]
+    ]
+front-spells (suc k) loose i o bound ws t rest h =
+    let g = chosen-is (front_read k loose i o bound) (front_read k tight i o bound ws) t rest h in
+    let f = front-spells k tight i o bound ws g.0 g.1 g.2 in
+    elim (choice-is (front_read k loose i o bound) g.0 g.1 t rest g.3) [
+      | inl d ↦ alone-fronts i o bound ws t g.0 g.1 rest f d.0 d.1
+      | inr d ↦ choice-fronts i o bound ws t rest g.0 d.0 g.1 d.1 f d.2 (front-spells k loose i o bound d.1 d.0 rest d.3) d.4
+    ]
+
+entire-is : (r : Option Front) (t : Term) → entire r ≡ Some t → r ≡ Some (t, [])
+entire-is None t h = absurd (cc)
+entire-is (Some (u, [])) t h = let e : u ≡ t = cc in ap (λ (z : Term). Some (z, [])) e
+entire-is (Some (u, w ∷ ws)) t h = absurd (cc)
+
+pub read-spells : (i o : List ℕ) (ws : List (List ℕ)) (t : Term) → behaviour_read i o ws ≡ Some t → Spells i o loose [] t ws
+read-spells i o ws t h =
+    let f = front-spells (suc (2 * length ws)) loose i o [] ws t [] (entire-is (front_read (suc (2 * length ws)) loose i o [] ws) t h) in
+    subst (λ (z : List (List ℕ)). Spells i o loose [] t z) (sym (f.1 ∙ append-nil f.0)) f.2
 
 -- ---- what is spelled is read
 
@@ -177,17 +251,77 @@ channel-read i o name c ne (inl h) = yes (bytes_eq name i) (Some 0) (cond (bytes
 channel-read i o name c ne (inr h) = no (bytes_eq name i) (Some 0) (cond (bytes_eq name o) (Some 1) None) (ne-bytes name i (λ e. ne (sym e ∙ h.1)) (bytes_eq name i) refl)
     ∙ (yes (bytes_eq name o) (Some 1) None (bytes-eq name o h.1) ∙ ap Some (sym h.0))
 
-step-reads : (oc : Option ℕ) (op : Option Position) (k : Position → Option Term) (c : ℕ) (p : Position) (t : Term) → oc ≡ Some c → op ≡ Some p → k p ≡ Some t → step_read oc op k ≡ Some (prefix (offer c p) [] t)
-step-reads oc op k c p t e f g = ap (λ (q : Option ℕ). step_read q op k) e ∙ (ap (λ (q : Option Position). step_read (Some c) q k) f ∙ ap (prefixed c p) g)
+step-reads : (oc : Option ℕ) (op : Option Position) (k : Position → Option Front) (c : ℕ) (p : Position) (t : Term) (rest : List (List ℕ)) → oc ≡ Some c → op ≡ Some p → k p ≡ Some (t, rest)
+    → step_read oc op k ≡ Some (prefix (offer c p) [] t, rest)
+step-reads oc op k c p t rest e f g = ap (λ (q : Option ℕ). step_read q op k) e ∙ (ap (λ (q : Option Position). step_read (Some c) q k) f ∙ ap (prefixed c p) g)
 
-pub spells-read : (i o : List ℕ) → (i ≡ o → ⊥) → {bound ws : List (List ℕ)} {t : Term} → Spells i o bound t ws → behaviour_read i o bound ws ≡ Some t
-spells-read i o ne stops = refl
-spells-read i o ne {bound} (takes {t = t} {more = more} c name x ch nm r) =
-    step-reads (channel_read i o name) (position_read bound (codes "?") x) (λ p. behaviour_read i o (bound ++ binder p ∷ []) more) c (taking x) t (channel-read i o name c ne ch) (take-position bound x nm) (spells-read i o ne r)
-spells-read i o ne {bound} (gives_number {t = t} {more = more} c name w n ch h r) =
-    step-reads (channel_read i o name) (position_read bound (codes "!") w) (λ p. behaviour_read i o (bound ++ binder p ∷ []) more) c (give (val (num n))) t (channel-read i o name c ne ch) (number-position bound w n h) (spells-read i o ne r)
-spells-read i o ne {bound} (gives_variable {t = t} {more = more} c name x k ch nm e r) =
-    step-reads (channel_read i o name) (position_read bound (codes "!") x) (λ p. behaviour_read i o (bound ++ binder p ∷ []) more) c (give (slot k)) t (channel-read i o name c ne ch) (slot-position bound x k nm e) (spells-read i o ne r)
+no-name : (w v : List ℕ) → IsName w → is_name v ≡ false → w ≡ v → ⊥
+no-name w v n e q = let z : true ≡ false = sym n ∙ (ap is_name q ∙ e) in absurd (cc)
+
+-- a channel's word is neither STOP nor a parenthesis
+channel-name : (i o name : List ℕ) (c : ℕ) → IsName i → IsName o → IsChannel i o c name → IsName name
+channel-name i o name c ni no (inl h) = subst IsName (sym h.1) ni
+channel-name i o name c ni no (inr h) = subst IsName (sym h.1) no
+
+name-read : (k : ℕ) (i o : List ℕ) (bound : List (List ℕ)) (name : List ℕ) (ws : List (List ℕ)) → IsName name → front_read (suc k) tight i o bound (name ∷ ws) ≡ prefix_read (front_read k tight i o) i o bound name ws
+name-read k i o bound name ws n =
+    no (bytes_eq name (codes "STOP")) (Some (stop, ws)) (cond (bytes_eq name (codes "(")) (grouped (front_read k loose i o bound ws)) (prefix_read (front_read k tight i o) i o bound name ws)) (ne-bytes name (codes "STOP") (no-name name (codes "STOP") n refl) (bytes_eq name (codes "STOP")) refl)
+    ∙ no (bytes_eq name (codes "(")) (grouped (front_read k loose i o bound ws)) (prefix_read (front_read k tight i o) i o bound name ws) (ne-bytes name (codes "(") (no-name name (codes "(") n refl) (bytes_eq name (codes "(")) refl)
+
+prefix-reads : (k : ℕ) (i o : List ℕ) → IsName i → IsName o → (i ≡ o → ⊥) → (bound : List (List ℕ)) (c : ℕ) (name s w : List ℕ) (p : Position) (t : Term) (more rest : List (List ℕ))
+    → IsChannel i o c name → position_read bound s w ≡ Some p → front_read k tight i o (bound ++ binder p ∷ []) more ≡ Some (t, rest)
+    → front_read (suc k) tight i o bound (name ∷ s ∷ w ∷ codes ">->" ∷ more) ≡ Some (prefix (offer c p) [] t, rest)
+prefix-reads k i o ni no ne bound c name s w p t more rest ch e h =
+    name-read k i o bound name (s ∷ w ∷ codes ">->" ∷ more) (channel-name i o name c ni no ch)
+    ∙ step-reads (channel_read i o name) (position_read bound s w) (λ p. front_read k tight i o (bound ++ binder p ∷ []) more) c p t rest (channel-read i o name c ne ch) e h
+
+-- steps that are enough for so many words
+abbrev pub Enough : Binding → ℕ → ℕ → Type 0
+Enough tight n k = 2 * n ≤ k
+Enough loose n k = 2 * n < k
+
+-- where a behaviour ends: a loose one goes on at `##`
+abbrev pub Ends : Binding → List (List ℕ) → Type 0
+Ends tight rest = Unit {0}
+Ends loose [] = Unit {0}
+Ends loose (w ∷ ws) = bytes_eq w (codes "##") ≡ false
+
+choice-ends : (loosely : List (List ℕ) → Option Front) (a : Term) (rest : List (List ℕ)) → Ends loose rest → choice_read loosely a rest ≡ Some (a, rest)
+choice-ends loosely a [] e = refl
+choice-ends loosely a (w ∷ ws) e = no (bytes_eq w (codes "##")) (beside a (loosely ws)) (Some (a, w ∷ ws)) e
+
+pub front-reads : (i o : List ℕ) → IsName i → IsName o → (i ≡ o → ⊥) → {b : Binding} {bound ws : List (List ℕ)} {t : Term} → Spells i o b bound t ws
+    → (k : ℕ) (rest : List (List ℕ)) → Enough b (length ws) k → Ends b rest → front_read k b i o bound (ws ++ rest) ≡ Some (t, rest)
+front-reads i o ni no ne stops zero rest f e = absurd (omega (arith, f))
+front-reads i o ni no ne stops (suc k) rest f e = refl
+front-reads i o ni no ne (takes {more = more} c name x ch nm r) zero rest f e = absurd (omega (arith, f))
+front-reads i o ni no ne {bound = bound} (takes {t = t} {more = more} c name x ch nm r) (suc k) rest f e =
+    prefix-reads k i o ni no ne bound c name (codes "?") x (taking x) t (more ++ rest) rest ch (take-position bound x nm) (front-reads i o ni no ne r k rest (omega (arith, f)) tt)
+front-reads i o ni no ne (gives_number {more = more} c name w n ch h r) zero rest f e = absurd (omega (arith, f))
+front-reads i o ni no ne {bound = bound} (gives_number {t = t} {more = more} c name w n ch h r) (suc k) rest f e =
+    prefix-reads k i o ni no ne bound c name (codes "!") w (give (val (num n))) t (more ++ rest) rest ch (number-position bound w n h) (front-reads i o ni no ne r k rest (omega (arith, f)) tt)
+front-reads i o ni no ne (gives_variable {more = more} c name x s ch nm q r) zero rest f e = absurd (omega (arith, f))
+front-reads i o ni no ne {bound = bound} (gives_variable {t = t} {more = more} c name x s ch nm q r) (suc k) rest f e =
+    prefix-reads k i o ni no ne bound c name (codes "!") x (give (slot s)) t (more ++ rest) rest ch (slot-position bound x s nm q) (front-reads i o ni no ne r k rest (omega (arith, f)) tt)
+front-reads i o ni no ne (groups {words = words} r) zero rest f e = absurd (omega (arith, f))
+front-reads i o ni no ne {bound = bound} (groups {t = t} {words = words} r) (suc k) rest f e =
+    let len : length (words ++ codes ")" ∷ []) ≡ length words + 1 = length-append words (codes ")" ∷ []) in
+    ap (λ (z : List (List ℕ)). grouped (front_read k loose i o bound z)) (append_assoc words (codes ")" ∷ []) rest)
+    ∙ ap grouped (front-reads i o ni no ne r k (codes ")" ∷ rest) (omega (arith, f, len)) refl)
+front-reads i o ni no ne (alone {words = words} r) zero rest f e = absurd (omega (arith, f))
+front-reads i o ni no ne {bound = bound} (alone {t = t} {words = words} r) (suc k) rest f e =
+    ap (chosen (front_read k loose i o bound)) (front-reads i o ni no ne r k rest (omega (arith, f)) tt) ∙ choice-ends (front_read k loose i o bound) t rest e
+front-reads i o ni no ne (chooses {left = left} {right = right} r q) zero rest f e = absurd (omega (arith, f))
+front-reads i o ni no ne {bound = bound} (chooses {a = a} {b = b} {left = left} {right = right} r q) (suc k) rest f e =
+    let len : length (left ++ codes "##" ∷ right) ≡ length left + length (codes "##" ∷ right) = length-append left (codes "##" ∷ right) in
+    ap (λ (z : List (List ℕ)). chosen (front_read k loose i o bound) (front_read k tight i o bound z)) (append_assoc left (codes "##" ∷ right) rest)
+    ∙ (ap (chosen (front_read k loose i o bound)) (front-reads i o ni no ne r k (codes "##" ∷ right ++ rest) (omega (arith, f, len)) tt)
+    ∙ ap (beside a) (front-reads i o ni no ne q k rest (omega (arith, f, len)) e))
+
+pub spells-read : (i o : List ℕ) → IsName i → IsName o → (i ≡ o → ⊥) → (ws : List (List ℕ)) (t : Term) → Spells i o loose [] t ws → behaviour_read i o ws ≡ Some t
+spells-read i o ni no ne ws t r =
+    ap (λ (z : List (List ℕ)). entire (front_read (suc (2 * length ws)) loose i o [] z)) (sym (append-nil ws))
+    ∙ ap entire (front-reads i o ni no ne r (suc (2 * length ws)) [] (omega arith) tt)
 
 -- ---- what is spelled is plain
 
@@ -214,9 +348,12 @@ slot-bound ns x s h = elim (slot-within 0 ns x None s h) [
 one-more : (bound : List (List ℕ)) (x : List ℕ) (t : Term) → IsPlain (length (bound ++ x ∷ [])) t → IsPlain (length bound + 1) t
 one-more bound x t h = subst (λ (k : ℕ). IsPlain k t) (length-append bound (x ∷ [])) h
 
-pub spells-plain : (i o : List ℕ) {bound ws : List (List ℕ)} {t : Term} → Spells i o bound t ws → IsPlain (length bound) t
+pub spells-plain : (i o : List ℕ) {b : Binding} {bound ws : List (List ℕ)} {t : Term} → Spells i o b bound t ws → IsPlain (length bound) t
 spells-plain i o stops = tt
-spells-plain i o {bound} (takes {t = t} c name x ch nm r) = (tt, one-more bound x t (spells-plain i o r))
-spells-plain i o {bound} (gives_number {t = t} c name w n ch h r) =
+spells-plain i o {bound = bound} (takes {t = t} c name x ch nm r) = (tt, one-more bound x t (spells-plain i o r))
+spells-plain i o {bound = bound} (gives_number {t = t} c name w n ch h r) =
     (subst (λ (z : ℤ). fits z ≡ true) (sym h.2) (number-fits (digits_value 10 w) h.3), one-more bound [] t (spells-plain i o r))
-spells-plain i o {bound} (gives_variable {t = t} c name x k ch nm e r) = (slot-bound bound x k e, one-more bound [] t (spells-plain i o r))
+spells-plain i o {bound = bound} (gives_variable {t = t} c name x k ch nm e r) = (slot-bound bound x k e, one-more bound [] t (spells-plain i o r))
+spells-plain i o (groups r) = spells-plain i o r
+spells-plain i o (alone r) = spells-plain i o r
+spells-plain i o (chooses r q) = (spells-plain i o r, spells-plain i o q)

@@ -15,6 +15,16 @@ use Rattle.txs_drive.specs.Ready.{ToldBy, HeedsBy, rank}
 use Rattle.txs_drive.specs.Course.{dials, waits, sends, Leads, stays, dialling, waiting, sending, entry, ends_of}
 use Rattle.txs_drive.specs.Going.{Called, Waited}
 
+not_false : (b : Bool) → (b ≡ false → ⊥) → b ≡ true
+not_false true h = refl
+not_false false h = absurd (h refl)
+
+-- what holds of a call that succeeded
+pub ok_of : {A E P : Type 0} (r : Result A E) (b : Bool) → b ≡ is_ok r → b ≡ true → OnOk r P → P
+ok_of (Ok x) b e h p = p
+ok_of (Err x) true e h p = cc
+ok_of (Err x) false e h p = cc
+
 pub err_of : {A E : Type 0} (r : Result A E) → is_ok r ≡ false → IsErr r
 err_of (Ok x) h = cc
 err_of (Err e) h = refl
@@ -25,9 +35,9 @@ told_run (Some x) go t h = (x, refl, h)
 
 -- the ends were dialled, or not
 pub called_dial : (m : Model) (s t : State) (u0 u1 : Option (List SutEntry)) (h0 h1 : Option ℕ) (f0 f1 : ℕ) (ok : Bool)
-    → s.todo ≡ Dial ∷ [] → ToldBy s.run (λ r. dial_told ok r s) t → Adds u0 u1 (entry h0 (call.Dial (ends_of m) ok) ∷ []) → h1 ≡ h0 → f0 ≤ f1 → (ok ≡ false → Rose f0 f1)
+    → s.todo ≡ Dial ∷ [] → ToldBy s.run (λ r. dial_told ok r s) t → Adds u0 u1 (entry h0 (call.Dial (ends_of m) ok) ∷ []) → h1 ≡ h0 → f0 ≤ f1 → (ok ≡ false → Rose f0 f1) → (ok ≡ true → f1 ≡ f0)
     → Called m s t u0 u1 h0 h1 f0 f1
-called_dial m s t u0 u1 h0 h1 f0 f1 ok e told a h l c =
+called_dial m s t u0 u1 h0 h1 f0 f1 ok e told a h l c k =
     let r = told_run s.run (λ r. dial_told ok r s) t told in
     record {
       event = dials ok;
@@ -39,13 +49,14 @@ called_dial m s t u0 u1 h0 h1 f0 f1 ok e told a h l c =
       hung = h;
       later = l;
       caused = λ x. elim x [ inl y ↦ c y | inr y ↦ absurd y ];
+      calm = λ n. k (not_false ok (λ z. n (inl z)));
     }
 
 -- a line was sent, or not
 pub called_send : (m : Model) (s t : State) (u0 u1 : Option (List SutEntry)) (h0 h1 : Option ℕ) (f0 f1 : ℕ) (v : ℤ) (ok : Bool)
-    → s.todo ≡ Send v ∷ [] → ToldBy s.run (λ r. send_told v ok r s) t → Adds u0 u1 (entry h0 (call.Send 0 (sent_line v) ok) ∷ []) → h1 ≡ h0 → f0 ≤ f1 → (ok ≡ false → Rose f0 f1)
+    → s.todo ≡ Send v ∷ [] → ToldBy s.run (λ r. send_told v ok r s) t → Adds u0 u1 (entry h0 (call.Send 0 (sent_line v) ok) ∷ []) → h1 ≡ h0 → f0 ≤ f1 → (ok ≡ false → Rose f0 f1) → (ok ≡ true → f1 ≡ f0)
     → Called m s t u0 u1 h0 h1 f0 f1
-called_send m s t u0 u1 h0 h1 f0 f1 v ok e told a h l c =
+called_send m s t u0 u1 h0 h1 f0 f1 v ok e told a h l c k =
     let r = told_run s.run (λ r. send_told v ok r s) t told in
     record {
       event = sends v ok;
@@ -57,6 +68,7 @@ called_send m s t u0 u1 h0 h1 f0 f1 v ok e told a h l c =
       hung = h;
       later = l;
       caused = λ x. elim x [ inl y ↦ c y | inr y ↦ absurd y ];
+      calm = λ n. k (not_false ok (λ z. n (inl z)));
     }
 
 heeds_run : (m : Model) (x : Sign) (r : Option Run) (s t : State) → HeedsBy m x r s t → (q : Run) × (r ≡ Some q) × Heeds m x q s t
@@ -78,6 +90,7 @@ called_wait m s t u0 u1 h0 h1 f0 f1 x e heeds w h =
       hung = h;
       later = w.later;
       caused = λ x. elim x [ inl y ↦ w.caused y | inr y ↦ absurd y ];
+      calm = λ n. w.calm (λ z. n (inl z));
     }
 
 -- ---- what is left to be done behind a wait

@@ -22,7 +22,7 @@ leads_then m s t u a b (dialling {es = es} ok r e n h) k = dialling ok r e n (le
 leads_then m s t u a b (waiting {es = es} x r e n c h) k = waiting x r e n c (leads_then m _ t u es b h k)
 leads_then m s t u a b (sending {es = es} v ok r e n h) k = sending v ok r e n (leads_then m _ t u es b h k)
 
-lines_in-append : (a b : List Event) → lines_in (a ++ b) ≡ lines_in a ++ lines_in b
+pub lines_in-append : (a b : List Event) → lines_in (a ++ b) ≡ lines_in a ++ lines_in b
 lines_in-append [] b = refl
 lines_in-append (reads line ∷ a) b = ap (λ (q : List (List ℕ)). line ∷ q) (lines_in-append a b)
 lines_in-append (does' d ∷ a) b = lines_in-append a b
@@ -30,7 +30,7 @@ lines_in-append (dials ok ∷ a) b = lines_in-append a b
 lines_in-append (waits h ∷ a) b = lines_in-append a b
 lines_in-append (sends v ok ∷ a) b = lines_in-append a b
 
-notes_in-append : (a b : List Event) → notes_in (a ++ b) ≡ notes_in a ++ notes_in b
+pub notes_in-append : (a b : List Event) → notes_in (a ++ b) ≡ notes_in a ++ notes_in b
 notes_in-append [] b = refl
 notes_in-append (reads line ∷ a) b = notes_in-append a b
 notes_in-append (does' d ∷ a) b = ap (λ (q : List Note). notes_of d ++ q) (notes_in-append a b) ∙ sym (append_assoc (notes_of d) (notes_in a) (notes_in b))
@@ -38,7 +38,7 @@ notes_in-append (dials ok ∷ a) b = notes_in-append a b
 notes_in-append (waits h ∷ a) b = notes_in-append a b
 notes_in-append (sends v ok ∷ a) b = notes_in-append a b
 
-text_of-append : (m : Model) (a b : List Note) → text_of m (a ++ b) ≡ text_of m a ++ text_of m b
+pub text_of-append : (m : Model) (a b : List Note) → text_of m (a ++ b) ≡ text_of m a ++ text_of m b
 text_of-append m [] b = refl
 text_of-append m (n ∷ a) b = ap (λ (q : List ℕ). line_of m n ++ q) (text_of-append m a b) ∙ sym (append_assoc (line_of m n) (text_of m a) (text_of m b))
 
@@ -50,7 +50,7 @@ hung_after-append (dials ok ∷ a) b h = hung_after-append a b h
 hung_after-append (waits x ∷ a) b h = hung_after-append a b h
 hung_after-append (sends v ok ∷ a) b h = hung_after-append a b h
 
-calls_in-append : (m : Model) (a b : List Event) (h : Option ℕ) → calls_in m (a ++ b) h ≡ calls_in m a h ++ calls_in m b (hung_after a h)
+pub calls_in-append : (m : Model) (a b : List Event) (h : Option ℕ) → calls_in m (a ++ b) h ≡ calls_in m a h ++ calls_in m b (hung_after a h)
 calls_in-append m [] b h = refl
 calls_in-append m (reads line ∷ a) b h = calls_in-append m a b h
 calls_in-append m (does' d ∷ a) b h = calls_in-append m a b (hung_by d h)
@@ -58,12 +58,21 @@ calls_in-append m (dials ok ∷ a) b h = ap (λ (q : List SutEntry). calls_in m 
 calls_in-append m (waits x ∷ a) b h = ap (λ (q : List SutEntry). calls_in m (waits x ∷ []) h ++ q) (calls_in-append m a b h)
 calls_in-append m (sends v ok ∷ a) b h = ap (λ (q : List SutEntry). calls_in m (sends v ok ∷ []) h ++ q) (calls_in-append m a b h)
 
-any_cases : (a b : List Event) → AnyFailed (a ++ b) → AnyFailed a ⊎ AnyFailed b
+pub any_cases : (a b : List Event) → AnyFailed (a ++ b) → AnyFailed a ⊎ AnyFailed b
 any_cases [] b h = inr h
 any_cases (e ∷ a) b (inl h) = inl (inl h)
 any_cases (e ∷ a) b (inr h) = elim (any_cases a b h) [ inl l ↦ inl (inr l) | inr r ↦ inr r ]
 
-stays_then : (a b : List Event) → has_quit a ≡ false → has_quit b ≡ false → has_quit (a ++ b) ≡ false
+any_front : (a b : List Event) → AnyFailed a → AnyFailed (a ++ b)
+any_front [] b h = absurd h
+any_front (e ∷ a) b (inl h) = inl h
+any_front (e ∷ a) b (inr h) = inr (any_front a b h)
+
+any_back : (a b : List Event) → AnyFailed b → AnyFailed (a ++ b)
+any_back [] b h = h
+any_back (e ∷ a) b h = inr (any_back a b h)
+
+pub stays_then : (a b : List Event) → has_quit a ≡ false → has_quit b ≡ false → has_quit (a ++ b) ≡ false
 stays_then [] b h k = k
 stays_then (reads line ∷ a) b h k = stays_then a b h k
 stays_then (does' (Say n) ∷ a) b h k = stays_then a b h k
@@ -94,6 +103,7 @@ went_then m s t v k0 k1 k2 u0 u1 u2 h0 h1 h2 f0 f1 f2 ls ms q a b = record {
   hung = b.hung ∙ (ap (hung_after b.events) a.hung ∙ sym (hung_after-append a.events b.events h0));
   later = omega (arith, a.later, b.later);
   caused = λ x. elim (any_cases a.events b.events x) [ inl l ↦ Rose-before f0 f1 f2 (a.caused l) b.later | inr r ↦ Rose-after f0 f1 f2 a.later (b.caused r) ];
+  calm = λ n. b.calm (λ x. n (any_back a.events b.events x)) ∙ a.calm (λ x. n (any_front a.events b.events x));
   left = λ e. left_behind a.events b.events (a.stays refl) (b.left e);
   stays = λ e. stays_then a.events b.events (a.stays refl) (b.stays e);
 }
@@ -109,6 +119,7 @@ went_line m s t k u h f line e c = record {
   hung = refl;
   later = omega arith;
   caused = λ x. elim x [ inl y ↦ absurd y | inr y ↦ absurd y ];
+  calm = λ n. refl;
   left = λ x. cc;
   stays = λ _. refl;
 }
@@ -124,6 +135,7 @@ went_called m s t k u0 u1 h0 h1 f0 f1 c = record {
   hung = c.hung;
   later = c.later;
   caused = c.caused;
+  calm = c.calm;
   left = λ x. cc;
   stays = λ _. c.stays;
 }
@@ -140,6 +152,7 @@ went_said m s t k0 k1 u h f n more text e d l w = record {
   hung = refl;
   later = omega arith;
   caused = λ x. elim x [ inl y ↦ absurd y | inr y ↦ absurd y ];
+  calm = λ n. refl;
   left = λ x. cc;
   stays = λ _. refl;
 }
@@ -156,6 +169,7 @@ went_hung m s t k u0 u1 h0 h1 f0 f1 more e d a h f = record {
   hung = h;
   later = omega (arith, f);
   caused = λ x. elim x [ inl y ↦ absurd y | inr y ↦ absurd y ];
+  calm = λ n. f;
   left = λ x. cc;
   stays = λ _. refl;
 }
@@ -172,6 +186,7 @@ went_idle m s t k u h f more e d = record {
   hung = refl;
   later = omega arith;
   caused = λ x. elim x [ inl y ↦ absurd y | inr y ↦ absurd y ];
+  calm = λ n. refl;
   left = λ x. cc;
   stays = λ _. refl;
 }
@@ -188,6 +203,7 @@ went_quit m s t k u h f more e d = record {
   hung = refl;
   later = omega arith;
   caused = λ x. elim x [ inl y ↦ absurd y | inr y ↦ absurd y ];
+  calm = λ n. refl;
   left = λ x. ([], refl, refl);
   stays = λ x. cc;
 }
@@ -203,6 +219,7 @@ went_nowhere m s k u h f = record {
   hung = refl;
   later = omega arith;
   caused = λ x. absurd x;
+  calm = λ n. refl;
   left = λ x. cc;
   stays = λ _. refl;
 }

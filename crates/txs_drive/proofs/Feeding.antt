@@ -16,7 +16,7 @@ all-append P (x ∷ xs) ys h k = (h.0, all-append P xs ys h.1 k)
 pub no_feed_push : (p : List ℕ) (b : ℕ) → HasNoFeed p → b ≢ 10 → HasNoFeed (p ++ b ∷ [])
 no_feed_push p b h ne = all-append (λ c. c ≢ 10) p (b ∷ []) h (ne, tt)
 
-joined-append : (a b : List (List ℕ)) → joined (a ++ b) ≡ joined a ++ joined b
+pub joined-append : (a b : List (List ℕ)) → joined (a ++ b) ≡ joined a ++ joined b
 joined-append [] b = refl
 joined-append (l ∷ a) b = ap (λ (q : List ℕ). l ++ 10 ∷ q) (joined-append a b) ∙ sym (append_assoc l (10 ∷ joined a) (joined b))
 

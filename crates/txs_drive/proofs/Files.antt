@@ -1,5 +1,5 @@
 -- What is read of the bytes of a file is the model that it states.
-use Rattle.std.proofs.Common.{◌≡◌, ◌≢◌, inl, inr, ℕ, ◌≤◌, true, not, nat_le, List, [], ◌++◌, length, Option, Some, None, Result, Ok, Err, IfOk, IsErrOf, refl, ◌∙◌, ap, subst, bytes_eq}
+use Rattle.std.proofs.Common.{◌≡◌, ◌≢◌, inl, inr, ℕ, ◌≤◌, true, not, nat_le, List, ◌++◌, length, Option, Some, None, Result, Ok, Err, IfOk, IsErrOf, refl, sym, ◌∙◌, ap, subst, bytes_eq}
 use Rattle.std.specs.List.{AllByRecursion}
 use Rattle.std.specs.Str.{IsUtf8}
 use Rattle.txs_terms.specs.Term.{Term}
@@ -8,7 +8,7 @@ use Rattle.txs_terms.specs.View.{term_of}
 use Rattle.txs_drive.specs.declared.load_fault.LoadFault.{LoadFault}
 use Rattle.txs_drive.specs.declared.load_fault.LoadFault.TheVariants.{Later, NoMemory}
 use Rattle.txs_drive.specs.declared.model.Model.{Model}
-use Rattle.txs_drive.specs.File.{IsFile, quoted}
+use Rattle.txs_drive.specs.File.{IsFile, SaysSame, StatesOnly, quoted}
 use Rattle.txs_drive.specs.Form.{words_of}
 use Rattle.txs_drive.specs.Pieces.{Pieces, Parts, parts_of, assembled, out_words, in_words, taken_apart, host_read, same_port, are_named, is_in_form, joined, model_read, of_pieces, words_read}
 use Rattle.txs_drive.specs.Reading.{Reads, behaviour_read, port_read}
@@ -30,14 +30,14 @@ pub record States (p : Pieces) (q : Parts) : Type 0 where
   pub form : is_in_form p ≡ true
   pub port : same_port (port_read p.port_out) (port_read p.port_in) ≡ Some q.port
   pub host : host_read p.host ≡ Some q.host
-  pub start : behaviour_read p.input p.output [] p.behaviour ≡ Some q.start
+  pub start : behaviour_read p.input p.output p.behaviour ≡ Some q.start
   pub input : p.input ≡ q.input
   pub output : p.output ≡ q.output
   pub name : p.name ≡ q.name
   pub link : p.link ≡ q.link
 
 joined-states : (p : Pieces) (q : Parts) (f : is_in_form p ≡ true) (port : Option ℕ) (host : Option (List ℕ)) (start : Option Term)
-    → same_port (port_read p.port_out) (port_read p.port_in) ≡ port → host_read p.host ≡ host → behaviour_read p.input p.output [] p.behaviour ≡ start
+    → same_port (port_read p.port_out) (port_read p.port_in) ≡ port → host_read p.host ≡ host → behaviour_read p.input p.output p.behaviour ≡ start
     → joined p port host start ≡ Some q → States p q
 joined-states p q f None host start a b c h = absurd (cc)
 joined-states p q f (Some port) None start a b c h = absurd (cc)
@@ -56,8 +56,8 @@ joined-states p q f (Some port) (Some host) (Some start) a b c h =
     }
 
 read-states : (p : Pieces) (q : Parts) → model_read p ≡ Some q → States p q
-read-states p q h = elim (by-test (is_in_form p) (joined p (same_port (port_read p.port_out) (port_read p.port_in)) (host_read p.host) (behaviour_read p.input p.output [] p.behaviour)) None (Some q) h) [
-  | inl d ↦ joined-states p q d.0 (same_port (port_read p.port_out) (port_read p.port_in)) (host_read p.host) (behaviour_read p.input p.output [] p.behaviour) refl refl refl d.1
+read-states p q h = elim (by-test (is_in_form p) (joined p (same_port (port_read p.port_out) (port_read p.port_in)) (host_read p.host) (behaviour_read p.input p.output p.behaviour)) None (Some q) h) [
+  | inl d ↦ joined-states p q d.0 (same_port (port_read p.port_out) (port_read p.port_in)) (host_read p.host) (behaviour_read p.input p.output p.behaviour) refl refl refl d.1
   | inr d ↦ absurd (cc)
 ]
 
@@ -132,7 +132,7 @@ made-file bytes m chandef b out inn sent heard u w h =
       words = w;
       names = n;
       channels = f.1;
-      spelled = read-spells m.input m.output [] b (term_of m.start) s.start;
+      spelled = read-spells m.input m.output b (term_of m.start) s.start;
       short = f.2;
       host = (host-quoted (quoted m.host) m.host s.host).1;
       ports = ports-spelled out inn m.port s.port;
@@ -163,7 +163,7 @@ file-read bytes m f =
       pieces_for m f.chandef f.behaviour f.port_out f.port_in f.sent f.heard,
       ap taken_apart f.words ∙ assembled-apart (pieces_for m f.chandef f.behaviour f.port_out f.port_in f.sent f.heard),
       yes (is_in_form (pieces_for m f.chandef f.behaviour f.port_out f.port_in f.sent f.heard)) _ None form
-          ∙ states-joined (pieces_for m f.chandef f.behaviour f.port_out f.port_in f.sent f.heard) (parts_of m) _ _ _ (ports-read f.port_out f.port_in m.port f.ports.0 f.ports.1) (quoted-host m.host f.host) (spells-read m.input m.output f.channels f.spelled),
+          ∙ states-joined (pieces_for m f.chandef f.behaviour f.port_out f.port_in f.sent f.heard) (parts_of m) _ _ _ (ports-read f.port_out f.port_in m.port f.ports.0 f.ports.1) (quoted-host m.host f.host) (spells-read m.input m.output f.names.1 f.names.2 f.channels f.behaviour (term_of m.start) f.spelled),
     )
 
 pub file-plain : (bytes : List ℕ) (m : Model) → IsFile bytes m → IsPlain 0 (term_of m.start)
@@ -193,3 +193,31 @@ pub later-file : (bytes : List ℕ) (r : Result Model LoadFault) → Reads parts
 later-file bytes (Ok m) h e m' f = absurd (cc)
 later-file bytes (Err Later) h e m f = unread bytes m h f
 later-file bytes (Err NoMemory) h e m f = absurd (cc)
+
+parts-same : (m n : Model) → parts_of m ≡ parts_of n → SaysSame m n
+parts-same m n e = record {
+  name = ap (λ (z : Parts). z.name) e;
+  input = ap (λ (z : Parts). z.input) e;
+  output = ap (λ (z : Parts). z.output) e;
+  link = ap (λ (z : Parts). z.link) e;
+  host = ap (λ (z : Parts). z.host) e;
+  port = ap (λ (z : Parts). z.port) e;
+  start = ap (λ (z : Parts). z.start) e;
+}
+
+-- two readings of one file are the same
+one-reading : (a : Option Pieces) (p q : Pieces) (x y : Parts) → a ≡ Some p → a ≡ Some q → model_read p ≡ Some x → model_read q ≡ Some y → x ≡ y
+one-reading a p q x y e f g h =
+    let s : p ≡ q = cc in
+    let t : Some x ≡ Some y = sym g ∙ (ap model_read s ∙ h) in
+    cc
+
+file-one : (bytes : List ℕ) (m n : Model) → IsFile bytes m → IsFile bytes n → SaysSame n m
+file-one bytes m n f g =
+    let a = file-read bytes m f in
+    let b = file-read bytes n g in
+    parts-same n m (one-reading (taken_apart (words_of bytes)) b.0 a.0 (parts_of n) (parts_of m) b.1 a.1 b.2 a.2)
+
+pub only-file : (bytes : List ℕ) (r : Result Model LoadFault) → IsUtf8 bytes → Reads parts_of r (words_read (words_of bytes)) → IfOk r (λ m. StatesOnly bytes m)
+only-file bytes (Ok m) u h = λ n f. file-one bytes m n (ok-file bytes (Ok m) u h) f
+only-file bytes (Err e) u h = tt

@@ -2,6 +2,7 @@ pub mod Tests
 pub mod Wording
 pub mod Digits
 pub mod Behaviours
+pub mod Readers
 pub mod Apart
 pub mod Texts
 pub mod Parts
@@ -12,6 +13,14 @@ pub mod Sessions
 pub mod Courses
 pub mod Calls
 pub mod Feeding
+pub mod Told
+pub mod Stops
+pub mod Sending
+pub mod Breaking
+pub mod Losing
 pub mod Talking
 pub mod Noted
+pub mod Linked
+pub mod Counts
+pub mod Hanging
 pub mod Serving

@@ -95,7 +95,7 @@ failed_says m s t es (sending {es = rest} v ok r e n h) = then_flag t.has_failed
 -- ---- LINK
 
 -- LINK is still to be written
-abbrev HasLink : List Doing → Type 0
+abbrev pub HasLink : List Doing → Type 0
 HasLink [] = ⊥
 HasLink (Say n ∷ ds) = (note.Ended Link ≡ n) ⊎ HasLink ds
 HasLink (Dial ∷ ds) = HasLink ds

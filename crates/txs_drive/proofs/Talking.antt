@@ -1,7 +1,7 @@
 -- What was read of a source, and what came of it.
 use Rattle.std.proofs.Common.{◌≡◌, ◌≤◌, ◌<◌, ◌+◌, ℕ, Bool, true, false, List, [], ◌∷◌, ◌++◌, Option, length, refl, sym, ◌∙◌, ap, append-nil, subst, arith, length-append}
 use Rattle.txs_outside.specs.declared.sut.SutEntry.{SutEntry}
-use Rattle.txs_outside.specs.Known.{Grows, Grows-none, Grows-then}
+use Rattle.txs_outside.specs.Known.{Grows, Loses, Tells, Grows-none, Grows-then}
 use Rattle.txs_drive.specs.declared.model.Model.{Model}
 use Rattle.txs_drive.specs.declared.feed.Finish.{Finish}
 use Rattle.txs_drive.specs.declared.feed.Finish.TheVariants as finish
@@ -10,31 +10,35 @@ use Rattle.txs_drive.specs.Course.{Event, lines_in}
 use Rattle.txs_drive.specs.Served.{Ending, open', end, fault, limit, command_lines, last_part}
 use Rattle.txs_drive.specs.Going.{HasNoFeed, joined, Took, TookSome, Ended, Conversed}
 use Rattle.txs_drive.proofs.Courses.{went_then}
+use Rattle.txs_drive.proofs.Losing.{loses_none, loses_then, loses_all}
 use Rattle.txs_drive.proofs.Feeding.{took_part, took_then, commands_joined, commands_part}
 
 -- these bytes were given, their lines were carried out, and the rest is pending
-pub record Talked (m : Model) (t : State) (g0 g1 : Option (List ℕ)) (k0 k1 : Option (List ℕ)) (u0 u1 : Option (List SutEntry)) (h0 h1 : Option ℕ) (f0 f1 : ℕ) (taken : ℕ) (pending : List ℕ) : Type 0 where
+pub record Talked (m : Model) (t : State) (g0 g1 l0 l1 : Option (List ℕ)) (k0 k1 : Option (List ℕ)) (u0 u1 : Option (List SutEntry)) (h0 h1 : Option ℕ) (f0 f1 : ℕ) (taken : ℕ) (pending : List ℕ) : Type 0 where
   pub given : List ℕ
   pub gave : Grows g0 g1 given
+  pub lost : Loses l0 l1 given
   pub count : length given ≡ taken
   pub took : Took m first t k0 k1 u0 u1 h0 h1 f0 f1 given pending false
 
 -- nothing was read yet
-pub talked_begin : (m : Model) (s : State) (g0 k : Option (List ℕ)) (u : Option (List SutEntry)) (h : Option ℕ) (f : ℕ) (pending : List ℕ) → s ≡ first → pending ≡ [] → Talked m s g0 g0 k k u u h h f f 0 pending
-talked_begin m s g0 k u h f pending e n = record {
+pub talked_begin : (m : Model) (s : State) (g0 l0 k : Option (List ℕ)) (u : Option (List SutEntry)) (h : Option ℕ) (f : ℕ) (pending : List ℕ) → s ≡ first → pending ≡ [] → Talked m s g0 g0 l0 l0 k k u u h h f f 0 pending
+talked_begin m s g0 l0 k u h f pending e n = record {
   given = [];
   gave = Grows-none g0;
+  lost = loses_none l0;
   count = refl;
   took = subst (λ (p : List ℕ). Took m first s k k u u h h f f [] p false) (sym n) (subst (λ (t : State). Took m first t k k u u h h f f [] [] false) (sym e) (took_part m first k u h f []));
 }
 
 -- a piece was read, and its lines were carried out
-pub talked_on : (m : Model) (t v : State) (g0 g1 g2 k0 k1 k2 : Option (List ℕ)) (u0 u1 u2 : Option (List SutEntry)) (h0 h1 h2 : Option ℕ) (f0 f1 f2 n i : ℕ) (pending piece later : List ℕ)
-    → Talked m t g0 g1 k0 k1 u0 u1 h0 h1 f0 f1 n pending → Grows g1 g2 piece → i ≡ n + length piece → TookSome m t v k1 k2 u1 u2 h1 h2 f1 f2 (pending ++ piece) later false
-    → Talked m v g0 g2 k0 k2 u0 u2 h0 h2 f0 f2 i later
-talked_on m t v g0 g1 g2 k0 k1 k2 u0 u1 u2 h0 h1 h2 f0 f1 f2 n i pending piece later x g e y = record {
+pub talked_on : (m : Model) (t v : State) (g0 g1 g2 l0 l1 l2 k0 k1 k2 : Option (List ℕ)) (u0 u1 u2 : Option (List SutEntry)) (h0 h1 h2 : Option ℕ) (f0 f1 f2 n i : ℕ) (pending piece later : List ℕ)
+    → Talked m t g0 g1 l0 l1 k0 k1 u0 u1 h0 h1 f0 f1 n pending → Grows g1 g2 piece → Loses l1 l2 piece → i ≡ n + length piece → TookSome m t v k1 k2 u1 u2 h1 h2 f1 f2 (pending ++ piece) later false
+    → Talked m v g0 g2 l0 l2 k0 k2 u0 u2 h0 h2 f0 f2 i later
+talked_on m t v g0 g1 g2 l0 l1 l2 k0 k1 k2 u0 u1 u2 h0 h1 h2 f0 f1 f2 n i pending piece later x g lo e y = record {
   given = x.given ++ piece;
   gave = Grows-then g0 g1 g2 x.given piece x.gave g;
+  lost = loses_then l0 l1 l2 x.given piece x.lost lo;
   count = omega (arith, length-append x.given piece, x.count, e);
   took = subst (λ (r : List ℕ). Took m first v k0 k2 u0 u2 h0 h2 f0 f2 (x.given ++ piece) r false) (y.2 refl)
       (took_then m first t v k0 k1 k2 u0 u1 u2 h0 h1 h2 f0 f1 f2 x.given piece pending y.0 false x.took y.1);
@@ -46,10 +50,10 @@ took_lines : (e : Ending) (bytes rest : List ℕ) (lines : List (List ℕ)) (eve
 took_lines e bytes rest lines events split read c = ap (λ (b : List ℕ). command_lines b e) split ∙ (c ∙ ap (λ (l : List (List ℕ)). l ++ command_lines rest e) (sym read))
 
 -- a `quit` was met in a piece
-pub conversed_quit : (m : Model) (t v : State) (g0 g1 g2 : Option (List ℕ)) (at_end : Bool) (k0 k1 k2 : Option (List ℕ)) (u0 u1 u2 : Option (List SutEntry)) (h0 h1 h2 : Option ℕ) (f0 f1 f2 n : ℕ) (pending piece later : List ℕ)
-    → Talked m t g0 g1 k0 k1 u0 u1 h0 h1 f0 f1 n pending → Grows g1 g2 piece → n + length piece ≤ 16777216 → v.todo ≡ [] → TookSome m t v k1 k2 u1 u2 h1 h2 f1 f2 (pending ++ piece) later true
-    → Conversed m finish.Quit v g0 g2 at_end k0 k2 u0 u2 h0 h2 f0 f2
-conversed_quit m t v g0 g1 g2 at_end k0 k1 k2 u0 u1 u2 h0 h1 h2 f0 f1 f2 n pending piece later x g within idle y =
+pub conversed_quit : (m : Model) (t v : State) (g0 g1 g2 l0 l1 l2 : Option (List ℕ)) (at_end : Bool) (k0 k1 k2 : Option (List ℕ)) (u0 u1 u2 : Option (List SutEntry)) (h0 h1 h2 : Option ℕ) (f0 f1 f2 n : ℕ) (pending piece later : List ℕ)
+    → Talked m t g0 g1 l0 l1 k0 k1 u0 u1 h0 h1 f0 f1 n pending → Grows g1 g2 piece → Loses l1 l2 piece → n + length piece ≤ 16777216 → v.todo ≡ [] → TookSome m t v k1 k2 u1 u2 h1 h2 f1 f2 (pending ++ piece) later true
+    → Conversed m finish.Quit v g0 g2 l0 l2 at_end k0 k2 u0 u2 h0 h2 f0 f2
+conversed_quit m t v g0 g1 g2 l0 l1 l2 at_end k0 k1 k2 u0 u1 u2 h0 h1 h2 f0 f1 f2 n pending piece later x g lo within idle y =
     let took = took_then m first t v k0 k1 k2 u0 u1 u2 h0 h1 h2 f0 f1 f2 x.given piece pending y.0 true x.took y.1 in
     record {
       given = x.given ++ piece;
@@ -59,6 +63,7 @@ conversed_quit m t v g0 g1 g2 at_end k0 k1 k2 u0 u1 u2 h0 h1 h2 f0 f1 f2 n pendi
       events = took.went.events;
       behind = command_lines y.0 open';
       gave = Grows-then g0 g1 g2 x.given piece x.gave g;
+      lost = loses_then l0 l1 l2 x.given piece x.lost lo;
       split = (refl, omega (arith, length-append x.given piece, x.count, within));
       ended = λ e. cc;
       leads = took.went.leads;
@@ -69,14 +74,15 @@ conversed_quit m t v g0 g1 g2 at_end k0 k1 k2 u0 u1 u2 h0 h1 h2 f0 f1 f2 n pendi
       hung = took.went.hung;
       later = took.went.later;
       caused = took.went.caused;
+      calm = took.went.calm;
       status = λ failed. refl;
     }
 
 -- the source failed
-pub conversed_fault : (m : Model) (t : State) (g0 g1 g2 : Option (List ℕ)) (at_end : Bool) (k0 k1 : Option (List ℕ)) (u0 u1 : Option (List SutEntry)) (h0 h1 : Option ℕ) (f0 f1 n : ℕ) (pending : List ℕ)
-    → Talked m t g0 g1 k0 k1 u0 u1 h0 h1 f0 f1 n pending → Grows g1 g2 [] → n ≤ 16777216 → HasNoFeed pending → t.todo ≡ []
-    → Conversed m finish.Failed t g0 g2 at_end k0 k1 u0 u1 h0 h1 f0 f1
-conversed_fault m t g0 g1 g2 at_end k0 k1 u0 u1 h0 h1 f0 f1 n pending x g within nf idle = record {
+pub conversed_fault : (m : Model) (t : State) (g0 g1 g2 l0 l1 l2 : Option (List ℕ)) (at_end : Bool) (k0 k1 : Option (List ℕ)) (u0 u1 : Option (List SutEntry)) (h0 h1 : Option ℕ) (f0 f1 n : ℕ) (pending : List ℕ)
+    → Talked m t g0 g1 l0 l1 k0 k1 u0 u1 h0 h1 f0 f1 n pending → Grows g1 g2 [] → Loses l1 l2 [] → n ≤ 16777216 → HasNoFeed pending → t.todo ≡ []
+    → Conversed m finish.Failed t g0 g2 l0 l2 at_end k0 k1 u0 u1 h0 h1 f0 f1
+conversed_fault m t g0 g1 g2 l0 l1 l2 at_end k0 k1 u0 u1 h0 h1 f0 f1 n pending x g lo within nf idle = record {
   given = x.given ++ [];
   commands = x.given ++ [];
   ending = fault;
@@ -84,6 +90,7 @@ conversed_fault m t g0 g1 g2 at_end k0 k1 u0 u1 h0 h1 f0 f1 n pending x g within
   events = x.took.went.events;
   behind = [];
   gave = Grows-then g0 g1 g2 x.given [] x.gave g;
+  lost = loses_then l0 l1 l2 x.given [] x.lost lo;
   split = (refl, omega (arith, length-append x.given [], x.count, within));
   ended = λ e. cc;
   leads = x.took.went.leads;
@@ -96,6 +103,7 @@ conversed_fault m t g0 g1 g2 at_end k0 k1 u0 u1 h0 h1 f0 f1 n pending x g within
   hung = x.took.went.hung;
   later = x.took.went.later;
   caused = x.took.went.caused;
+  calm = x.took.went.calm;
   status = λ failed. refl;
 }
 
@@ -105,10 +113,10 @@ one_byte (b ∷ []) h k = (b, refl)
 one_byte (b ∷ c ∷ xs) h k = absurd (omega (arith, k))
 
 -- one byte past the limit was read
-pub conversed_limit : (m : Model) (t : State) (g0 g1 g2 : Option (List ℕ)) (at_end : Bool) (k0 k1 : Option (List ℕ)) (u0 u1 : Option (List SutEntry)) (h0 h1 : Option ℕ) (f0 f1 n : ℕ) (pending piece : List ℕ)
-    → Talked m t g0 g1 k0 k1 u0 u1 h0 h1 f0 f1 n pending → Grows g1 g2 piece → n ≡ 16777216 → 0 < length piece → length piece ≤ 1 → HasNoFeed pending → t.todo ≡ []
-    → Conversed m finish.TooLong t g0 g2 at_end k0 k1 u0 u1 h0 h1 f0 f1
-conversed_limit m t g0 g1 g2 at_end k0 k1 u0 u1 h0 h1 f0 f1 n pending piece x g full some most nf idle =
+pub conversed_limit : (m : Model) (t : State) (g0 g1 g2 l0 l1 l2 : Option (List ℕ)) (at_end : Bool) (k0 k1 : Option (List ℕ)) (u0 u1 : Option (List SutEntry)) (h0 h1 : Option ℕ) (f0 f1 n : ℕ) (pending piece : List ℕ)
+    → Talked m t g0 g1 l0 l1 k0 k1 u0 u1 h0 h1 f0 f1 n pending → Grows g1 g2 piece → Loses l1 l2 piece → n ≡ 16777216 → 0 < length piece → length piece ≤ 1 → HasNoFeed pending → t.todo ≡ []
+    → Conversed m finish.TooLong t g0 g2 l0 l2 at_end k0 k1 u0 u1 h0 h1 f0 f1
+conversed_limit m t g0 g1 g2 l0 l1 l2 at_end k0 k1 u0 u1 h0 h1 f0 f1 n pending piece x g lo full some most nf idle =
     let b = one_byte piece some most in
     record {
       given = x.given ++ piece;
@@ -118,6 +126,7 @@ conversed_limit m t g0 g1 g2 at_end k0 k1 u0 u1 h0 h1 f0 f1 n pending piece x g 
       events = x.took.went.events;
       behind = [];
       gave = Grows-then g0 g1 g2 x.given piece x.gave g;
+      lost = loses_then l0 l1 l2 x.given piece x.lost lo;
       split = (b.0, ap (λ (z : List ℕ). x.given ++ z) b.1, x.count ∙ full);
       ended = λ e. cc;
       leads = x.took.went.leads;
@@ -129,6 +138,7 @@ conversed_limit m t g0 g1 g2 at_end k0 k1 u0 u1 h0 h1 f0 f1 n pending piece x g 
       hung = x.took.went.hung;
       later = x.took.went.later;
       caused = x.took.went.caused;
+      calm = x.took.went.calm;
       status = λ failed. refl;
     }
 
@@ -139,10 +149,10 @@ end_lines given pending line lines events split c part e read =
     ∙ (ap (λ (l : List (List ℕ)). lines ++ l) part ∙ (ap (λ (z : List ℕ). lines ++ last_part end z) (sym e) ∙ (sym read ∙ sym (append-nil (lines_in events)))))))
 
 -- the source ended, and the last line was carried out
-pub conversed_end : (m : Model) (t v : State) (g0 g1 g2 : Option (List ℕ)) (at_end : Bool) (k0 k1 k2 : Option (List ℕ)) (u0 u1 u2 : Option (List SutEntry)) (h0 h1 h2 : Option ℕ) (f0 f1 f2 n : ℕ) (pending line : List ℕ) (f : Finish)
-    → Talked m t g0 g1 k0 k1 u0 u1 h0 h1 f0 f1 n pending → Grows g1 g2 [] → n ≤ 16777216 → HasNoFeed pending → v.todo ≡ [] → at_end ≡ true → line ≡ pending
-    → Ended m t v k1 k2 u1 u2 h1 h2 f1 f2 line f → Conversed m f v g0 g2 at_end k0 k2 u0 u2 h0 h2 f0 f2
-conversed_end m t v g0 g1 g2 at_end k0 k1 k2 u0 u1 u2 h0 h1 h2 f0 f1 f2 n pending line finish.Quit x g within nf idle ended e y =
+pub conversed_end : (m : Model) (t v : State) (g0 g1 g2 l0 l1 l2 : Option (List ℕ)) (at_end : Bool) (k0 k1 k2 : Option (List ℕ)) (u0 u1 u2 : Option (List SutEntry)) (h0 h1 h2 : Option ℕ) (f0 f1 f2 n : ℕ) (pending line : List ℕ) (f : Finish)
+    → Talked m t g0 g1 l0 l1 k0 k1 u0 u1 h0 h1 f0 f1 n pending → Grows g1 g2 [] → Loses l1 l2 [] → n ≤ 16777216 → HasNoFeed pending → v.todo ≡ [] → (at_end ≡ true) × Tells l1 [] → line ≡ pending
+    → Ended m t v k1 k2 u1 u2 h1 h2 f1 f2 line f → Conversed m f v g0 g2 l0 l2 at_end k0 k2 u0 u2 h0 h2 f0 f2
+conversed_end m t v g0 g1 g2 l0 l1 l2 at_end k0 k1 k2 u0 u1 u2 h0 h1 h2 f0 f1 f2 n pending line finish.Quit x g lo within nf idle ended e y =
     let whole = went_then m first t v k0 k1 k2 u0 u1 u2 h0 h1 h2 f0 f1 f2 x.took.lines (last_part end line) true x.took.went y.0 in
     record {
       given = x.given ++ [];
@@ -152,8 +162,9 @@ conversed_end m t v g0 g1 g2 at_end k0 k1 k2 u0 u1 u2 h0 h1 h2 f0 f1 f2 n pendin
       events = whole.events;
       behind = [];
       gave = Grows-then g0 g1 g2 x.given [] x.gave g;
+      lost = loses_then l0 l1 l2 x.given [] x.lost lo;
       split = (refl, omega (arith, length-append x.given [], x.count, within));
-      ended = λ _. ended;
+      ended = λ _. (ended.0, loses_all l0 l1 x.given x.lost ended.1);
       leads = whole.leads;
       lines = end_lines x.given pending line x.took.lines whole.events x.took.split (commands_joined end x.took.lines pending x.took.each) (commands_part end pending nf) e whole.read;
       rests = (idle, (whole.left refl).0, (whole.left refl).1, (whole.left refl).2);
@@ -162,9 +173,10 @@ conversed_end m t v g0 g1 g2 at_end k0 k1 k2 u0 u1 u2 h0 h1 h2 f0 f1 f2 n pendin
       hung = whole.hung;
       later = whole.later;
       caused = whole.caused;
+      calm = whole.calm;
       status = λ failed. refl;
     }
-conversed_end m t v g0 g1 g2 at_end k0 k1 k2 u0 u1 u2 h0 h1 h2 f0 f1 f2 n pending line finish.End x g within nf idle ended e y =
+conversed_end m t v g0 g1 g2 l0 l1 l2 at_end k0 k1 k2 u0 u1 u2 h0 h1 h2 f0 f1 f2 n pending line finish.End x g lo within nf idle ended e y =
     let whole = went_then m first t v k0 k1 k2 u0 u1 u2 h0 h1 h2 f0 f1 f2 x.took.lines (last_part end line) false x.took.went y.0 in
     record {
       given = x.given ++ [];
@@ -174,8 +186,9 @@ conversed_end m t v g0 g1 g2 at_end k0 k1 k2 u0 u1 u2 h0 h1 h2 f0 f1 f2 n pendin
       events = whole.events;
       behind = [];
       gave = Grows-then g0 g1 g2 x.given [] x.gave g;
+      lost = loses_then l0 l1 l2 x.given [] x.lost lo;
       split = (refl, omega (arith, length-append x.given [], x.count, within));
-      ended = λ _. ended;
+      ended = λ _. (ended.0, loses_all l0 l1 x.given x.lost ended.1);
       leads = whole.leads;
       lines = end_lines x.given pending line x.took.lines whole.events x.took.split (commands_joined end x.took.lines pending x.took.each) (commands_part end pending nf) e whole.read;
       rests = (idle, refl, whole.stays refl);
@@ -184,7 +197,8 @@ conversed_end m t v g0 g1 g2 at_end k0 k1 k2 u0 u1 u2 h0 h1 h2 f0 f1 f2 n pendin
       hung = whole.hung;
       later = whole.later;
       caused = whole.caused;
+      calm = whole.calm;
       status = λ failed. refl;
     }
-conversed_end m t v g0 g1 g2 at_end k0 k1 k2 u0 u1 u2 h0 h1 h2 f0 f1 f2 n pending line finish.Failed x g within nf idle ended e y = absurd y.1
-conversed_end m t v g0 g1 g2 at_end k0 k1 k2 u0 u1 u2 h0 h1 h2 f0 f1 f2 n pending line finish.TooLong x g within nf idle ended e y = absurd y.1
+conversed_end m t v g0 g1 g2 l0 l1 l2 at_end k0 k1 k2 u0 u1 u2 h0 h1 h2 f0 f1 f2 n pending line finish.Failed x g lo within nf idle ended e y = absurd y.1
+conversed_end m t v g0 g1 g2 l0 l1 l2 at_end k0 k1 k2 u0 u1 u2 h0 h1 h2 f0 f1 f2 n pending line finish.TooLong x g lo within nf idle ended e y = absurd y.1

@@ -1,5 +1,5 @@
 -- Courses of the reference run: what happens from one state to another, and what comes of it.
-use Rattle.std.specs.Prelude.{◌≡◌, ◌⊎◌, ℕ, ℤ, Bool, true, false, ◌||◌, List, [], ◌∷◌, ◌++◌, Option, Some}
+use Rattle.std.specs.Prelude.{◌≡◌, ◌⊎◌, ℕ, ◌+◌, ℤ, Bool, true, false, ◌||◌, List, [], ◌∷◌, ◌++◌, Option, Some}
 use Rattle.std.specs.Option.{option_map}
 use Rattle.txs_outside.specs.declared.sut.Heard.{Heard}
 use Rattle.txs_outside.specs.declared.sut.Heard.TheVariants as heard
@@ -12,6 +12,7 @@ use Rattle.txs_drive.specs.declared.doing.Doing.{Doing}
 use Rattle.txs_drive.specs.declared.doing.Doing.TheVariants.{Say, Dial, Wait, Send, HangUp, Idle, Quit}
 use Rattle.txs_drive.specs.declared.model.Model.{Model}
 use Rattle.txs_drive.specs.declared.note.Note.{Note}
+use Rattle.txs_drive.specs.declared.note.Note.TheVariants as note
 use Rattle.txs_drive.specs.Commands.{command_of}
 use Rattle.txs_drive.specs.Lines.{line_of, sent_line}
 use Rattle.txs_drive.specs.Session.{Run, State, Carries, dial_told, send_told, sign_of, Heeds, is_fail, done}
@@ -99,6 +100,36 @@ has_quit (does' d ∷ es) = is_quit d || has_quit es
 has_quit (dials ok ∷ es) = has_quit es
 has_quit (waits h ∷ es) = has_quit es
 has_quit (sends v ok ∷ es) = has_quit es
+
+-- how many dials succeeded
+abbrev pub dialled_in : List Event → ℕ
+dialled_in [] = 0
+dialled_in (dials true ∷ es) = 1 + dialled_in es
+dialled_in (_ ∷ es) = dialled_in es
+
+-- how often the ends were hung up
+abbrev pub hung_in : List Event → ℕ
+hung_in [] = 0
+hung_in (does' HangUp ∷ es) = 1 + hung_in es
+hung_in (_ ∷ es) = hung_in es
+
+-- the values that were sent, in order
+abbrev pub sent_in : List Event → List ℤ
+sent_in [] = []
+sent_in (sends v true ∷ es) = v ∷ sent_in es
+sent_in (_ ∷ es) = sent_in es
+
+-- the values that notes tell to be sent
+abbrev pub told_in : List Note → List ℤ
+told_in [] = []
+told_in (note.In n v ∷ ns) = v ∷ told_in ns
+told_in (_ ∷ ns) = told_in ns
+
+-- the values of which it is still to be told that they were sent
+abbrev pub due_in : List Doing → List ℤ
+due_in [] = []
+due_in (Say (note.In n v) ∷ ds) = v ∷ due_in ds
+due_in (_ ∷ ds) = due_in ds
 
 -- a note is among those written
 abbrev pub IsNoted : Note → List Note → Type 0

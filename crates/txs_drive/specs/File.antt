@@ -5,7 +5,7 @@ use Rattle.std.specs.Str.Parse.{IsNumeral, digits_value}
 use Rattle.txs_values.specs.Spelling.{is_digit}
 use Rattle.txs_terms.specs.View.{term_of}
 use Rattle.txs_drive.specs.declared.model.Model.{Model}
-use Rattle.txs_drive.specs.Form.{words_of, IsName, Spells}
+use Rattle.txs_drive.specs.Form.{words_of, IsName, loose, Spells}
 
 -- the words before the behaviour
 abbrev pub front_of : Model → List ℕ → List (List ℕ)
@@ -45,7 +45,21 @@ pub record IsFile (bytes : List ℕ) (m : Model) : Type 0 where
   pub words : words_of bytes ≡ front_of m chandef ++ behaviour ++ back_of m port_out port_in sent heard
   pub names : IsName chandef × IsName m.input × IsName m.output × IsName m.name × IsName m.link × IsName sent × IsName heard
   pub channels : m.input ≢ m.output
-  pub spelled : Spells m.input m.output [] (term_of m.start) behaviour
+  pub spelled : Spells m.input m.output loose [] (term_of m.start) behaviour
   pub short : length behaviour ≤ 400
   pub host : list_all is_host_byte m.host ≡ true
   pub ports : IsPort port_out m.port × IsPort port_in m.port
+
+-- two models say the same: their names, host and port are the same, and so are their behaviours
+pub record SaysSame (m n : Model) : Type 0 where
+  pub name : m.name ≡ n.name
+  pub input : m.input ≡ n.input
+  pub output : m.output ≡ n.output
+  pub link : m.link ≡ n.link
+  pub host : m.host ≡ n.host
+  pub port : m.port ≡ n.port
+  pub start : term_of m.start ≡ term_of n.start
+
+-- no file states two models
+abbrev pub StatesOnly : List ℕ → Model → Type 0
+StatesOnly bytes m = (n : Model) → IsFile bytes n → SaysSame n m

@@ -5,7 +5,7 @@ use Rattle.std.specs.Str.Parse.{IsNumeral, digits_value}
 use Rattle.txs_values.specs.Value.{num}
 use Rattle.txs_values.specs.Spelling.{is_letter, is_name_byte, is_digit}
 use Rattle.txs_terms.specs.Expr.{val, slot}
-use Rattle.txs_terms.specs.Term.{Position, give, take, Offer, Term, stop, prefix}
+use Rattle.txs_terms.specs.Term.{Position, give, take, Offer, Term, stop, prefix, choice}
 
 -- ---- words
 
@@ -74,15 +74,24 @@ IsNumber word n = (list_all is_digit word ≡ true) × IsNumeral 10 word × (n �
 abbrev pub offer : ℕ → Position → List Offer
 offer c p = (record { channel = c; positions = p ∷ [] }) ∷ []
 
+-- A behaviour is tight where it may stand behind `>->` and before `##`; every one is loose, and so is a choice.
+pub data Binding : Type 0 where
+  tight : Binding
+  loose : Binding
+
 -- the words of a behaviour over the channels i and o, behind the binders of these names
-pub data Spells (i o : List ℕ) : List (List ℕ) → Term → List (List ℕ) → Type 0 where
-  stops : {bound : List (List ℕ)} → Spells i o bound stop (codes "STOP" ∷ [])
+pub data Spells (i o : List ℕ) : Binding → List (List ℕ) → Term → List (List ℕ) → Type 0 where
+  stops : {bound : List (List ℕ)} → Spells i o tight bound stop (codes "STOP" ∷ [])
   takes : {bound : List (List ℕ)} {t : Term} {more : List (List ℕ)} (c : ℕ) (name x : List ℕ)
-      → IsChannel i o c name → IsName x → Spells i o (bound ++ x ∷ []) t more
-      → Spells i o bound (prefix (offer c (take x)) [] t) (name ∷ codes "?" ∷ x ∷ codes ">->" ∷ more)
+      → IsChannel i o c name → IsName x → Spells i o tight (bound ++ x ∷ []) t more
+      → Spells i o tight bound (prefix (offer c (take x)) [] t) (name ∷ codes "?" ∷ x ∷ codes ">->" ∷ more)
   gives_number : {bound : List (List ℕ)} {t : Term} {more : List (List ℕ)} (c : ℕ) (name word : List ℕ) (n : ℤ)
-      → IsChannel i o c name → IsNumber word n → Spells i o (bound ++ [] ∷ []) t more
-      → Spells i o bound (prefix (offer c (give (val (num n)))) [] t) (name ∷ codes "!" ∷ word ∷ codes ">->" ∷ more)
+      → IsChannel i o c name → IsNumber word n → Spells i o tight (bound ++ [] ∷ []) t more
+      → Spells i o tight bound (prefix (offer c (give (val (num n)))) [] t) (name ∷ codes "!" ∷ word ∷ codes ">->" ∷ more)
   gives_variable : {bound : List (List ℕ)} {t : Term} {more : List (List ℕ)} (c : ℕ) (name x : List ℕ) (k : ℕ)
-      → IsChannel i o c name → IsName x → slot_of bound x ≡ Some k → Spells i o (bound ++ [] ∷ []) t more
-      → Spells i o bound (prefix (offer c (give (slot k))) [] t) (name ∷ codes "!" ∷ x ∷ codes ">->" ∷ more)
+      → IsChannel i o c name → IsName x → slot_of bound x ≡ Some k → Spells i o tight (bound ++ [] ∷ []) t more
+      → Spells i o tight bound (prefix (offer c (give (slot k))) [] t) (name ∷ codes "!" ∷ x ∷ codes ">->" ∷ more)
+  groups : {bound : List (List ℕ)} {t : Term} {words : List (List ℕ)} → Spells i o loose bound t words → Spells i o tight bound t (codes "(" ∷ words ++ codes ")" ∷ [])
+  alone : {bound : List (List ℕ)} {t : Term} {words : List (List ℕ)} → Spells i o tight bound t words → Spells i o loose bound t words
+  chooses : {bound : List (List ℕ)} {a b : Term} {left right : List (List ℕ)}
+      → Spells i o tight bound a left → Spells i o loose bound b right → Spells i o loose bound (choice a b) (left ++ codes "##" ∷ right)

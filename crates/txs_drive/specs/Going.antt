@@ -2,7 +2,7 @@
 use Rattle.std.specs.Prelude.{◌≡◌, ◌≢◌, ℕ, ◌≤◌, ◌<◌, Bool, true, false, List, [], ◌∷◌, ◌++◌, Option, Some, length}
 use Rattle.std.specs.List.{AllByRecursion}
 use Rattle.txs_outside.specs.Causes.{Rose}
-use Rattle.txs_outside.specs.Known.{Grows, Adds}
+use Rattle.txs_outside.specs.Known.{Grows, Loses, Tells, Adds}
 use Rattle.txs_outside.specs.declared.sut.SutEntry.{SutEntry}
 use Rattle.txs_drive.specs.declared.doing.Doing.TheVariants.{Quit}
 use Rattle.txs_drive.specs.declared.driver.Next.{Next}
@@ -36,6 +36,7 @@ pub record Went (m : Model) (s t : State) (k0 k1 : Option (List ℕ)) (u0 u1 : O
   pub hung : h1 ≡ hung_after events h0
   pub later : f0 ≤ f1
   pub caused : AnyFailed events → Rose f0 f1
+  pub calm : (AnyFailed events → ⊥) → f1 ≡ f0
   pub left : q ≡ true → IsLeft events
   pub stays : q ≡ false → has_quit events ≡ false
 
@@ -50,6 +51,7 @@ pub record Called (m : Model) (s t : State) (u0 u1 : Option (List SutEntry)) (h0
   pub hung : h1 ≡ hung_after (event ∷ []) h0
   pub later : f0 ≤ f1
   pub caused : AnyFailed (event ∷ []) → Rose f0 f1
+  pub calm : (AnyFailed (event ∷ []) → ⊥) → f1 ≡ f0
 
 -- a wait, and what its answer says
 pub record Waited (u0 u1 : Option (List SutEntry)) (h0 : Option ℕ) (f0 f1 : ℕ) (sign : Sign) : Type 0 where
@@ -58,6 +60,7 @@ pub record Waited (u0 u1 : Option (List SutEntry)) (h0 : Option ℕ) (f0 f1 : �
   pub says : sign ≡ sign_of heard
   pub later : f0 ≤ f1
   pub caused : heard ≡ Failed → Rose f0 f1
+  pub calm : heard ≢ Failed → f1 ≡ f0
 
 -- what a session keeps, with so many ends of the system dialled
 pub record IsReady (m : Model) (session : rust.Session) (ends : ℕ) : Type 0 where
@@ -136,7 +139,7 @@ code_of finish.Failed failed = 3
 code_of finish.TooLong failed = 6
 
 -- the commands of a source were carried out up to their end
-pub record Conversed (m : Model) (f : Finish) (t : State) (g0 g1 : Option (List ℕ)) (at_end : Bool) (k0 k1 : Option (List ℕ)) (u0 u1 : Option (List SutEntry)) (h0 h1 : Option ℕ) (f0 f1 : ℕ) : Type 0 where
+pub record Conversed (m : Model) (f : Finish) (t : State) (g0 g1 l0 l1 : Option (List ℕ)) (at_end : Bool) (k0 k1 : Option (List ℕ)) (u0 u1 : Option (List SutEntry)) (h0 h1 : Option ℕ) (f0 f1 : ℕ) : Type 0 where
   pub given : List ℕ
   pub commands : List ℕ
   pub ending : Ending
@@ -144,8 +147,9 @@ pub record Conversed (m : Model) (f : Finish) (t : State) (g0 g1 : Option (List 
   pub events : List Event
   pub behind : List (List ℕ)
   pub gave : Grows g0 g1 given
+  pub lost : Loses l0 l1 given
   pub split : Gave ending given commands
-  pub ended : ending ≡ end → at_end ≡ true
+  pub ended : ending ≡ end → (at_end ≡ true) × Tells l0 given
   pub leads : Leads m first events t
   pub lines : command_lines commands ending ≡ lines_in events ++ behind
   pub rests : Rests quits t behind events
@@ -154,4 +158,5 @@ pub record Conversed (m : Model) (f : Finish) (t : State) (g0 g1 : Option (List 
   pub hung : h1 ≡ hung_after events h0
   pub later : f0 ≤ f1
   pub caused : AnyFailed events → Rose f0 f1
+  pub calm : (AnyFailed events → ⊥) → f1 ≡ f0
   pub status : (failed : Bool) → status_of ending quits failed ≡ Some (code_of f failed)

@@ -9,5 +9,7 @@ pub mod Allowed
 pub mod Session
 pub mod Course
 pub mod Served
+pub mod Cut
 pub mod Ready
 pub mod Going
+pub mod Stopping

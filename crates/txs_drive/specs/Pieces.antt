@@ -141,7 +141,7 @@ joined p (Some port) (Some host) None = None
 joined p (Some port) (Some host) (Some start) = Some (record { input = p.input; output = p.output; name = p.name; link = p.link; host = host; port = port; start = start })
 
 abbrev pub model_read : Pieces → Option Parts
-model_read p = cond (is_in_form p) (joined p (same_port (port_read p.port_out) (port_read p.port_in)) (host_read p.host) (behaviour_read p.input p.output [] p.behaviour)) None
+model_read p = cond (is_in_form p) (joined p (same_port (port_read p.port_out) (port_read p.port_in)) (host_read p.host) (behaviour_read p.input p.output p.behaviour)) None
 
 abbrev pub of_pieces : Option Pieces → Option Parts
 of_pieces None = None

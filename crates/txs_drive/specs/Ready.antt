@@ -1,5 +1,5 @@
 -- What a session of the code keeps between its calls.
-use Rattle.std.specs.Prelude.{◌≡◌, ◌⊎◌, ℕ, ◌+◌, ◌<◌, Bool, true, false, List, [], ◌∷◌, ◌++◌, length, Option, Some, None}
+use Rattle.std.specs.Prelude.{◌≡◌, ◌⊎◌, ℕ, ℤ, ◌+◌, ◌<◌, Bool, true, false, List, [], ◌∷◌, ◌++◌, length, vec_len, vec_capacity, Option, Some, None}
 use Rattle.std.specs.Option.{option_map}
 use Rattle.txs_terms.specs.Sets.{IsAfter, ArePlain}
 use Rattle.txs_terms.specs.View.{term_of, terms_of}
@@ -7,6 +7,9 @@ use Rattle.txs_drive.specs.declared.doing.Doing.{Doing}
 use Rattle.txs_drive.specs.declared.doing.Doing.TheVariants.{Say, Dial, Wait, Send, HangUp, Idle, Quit}
 use Rattle.txs_drive.specs.declared.run.Run as rust_run
 use Rattle.txs_drive.specs.declared.session.Session as rust
+use Rattle.txs_drive.specs.declared.session.Prepared as rust_prepared
+use Rattle.txs_drive.specs.declared.note.Note.TheVariants as note
+use Rattle.txs_drive.specs.declared.note.Ending.TheVariants.{Link}
 use Rattle.txs_drive.specs.declared.model.Model.{Model}
 use Rattle.txs_drive.specs.Allowed.{definitions, scope, sync, latest_first, IsAllowed}
 use Rattle.txs_drive.specs.Session.{Run, State, done, Judges, Heeds}
@@ -37,6 +40,14 @@ Keeps m (Some r) = IsKept m r
 abbrev pub IsPlainRun : Option rust_run.Run → Type 0
 IsPlainRun None = Unit {0}
 IsPlainRun (Some r) = ArePlain (terms_of r.set)
+
+-- there is room for one more element of the trace
+abbrev pub HasRoom : rust_run.Run → Type 0
+HasRoom r = vec_len r.trace < vec_capacity r.trace
+
+abbrev pub HasRoomNow : Option rust_run.Run → Type 0
+HasRoomNow None = ⊥
+HasRoomNow (Some r) = HasRoom r
 
 -- the set has the terms after the run's trace and one more
 abbrev pub IsMoved : Model → Seen → Option rust_run.Run → List rust_term.Term → Type 0
@@ -128,3 +139,11 @@ HeedsBy m x (Some r) s t = Heeds m x r s t
 abbrev pub ends_after : Doing → ℕ → ℕ
 ends_after HangUp n = 0
 ends_after _ n = n
+
+-- What goes on behind an action was made before it is sent: the terms after it, what is to be done where it was sent and where it was not, and room in the trace.
+pub record IsPrepared (v : ℤ) (session : rust.Session) (p : rust_prepared.Prepared) : Type 0 where
+  pub plain : ArePlain (terms_of p.set)
+  pub moved : (m : Model) → Keeps m session.run → IsMoved m (seen.In v) session.run p.set
+  pub sent : p.sent.items ≡ Say (note.In (next_number (state_of session).run) v) ∷ Idle ∷ []
+  pub unsent : p.unsent.items ≡ Say (note.Ended Link) ∷ HangUp ∷ Idle ∷ []
+  pub room : HasRoomNow session.run

@@ -1,14 +1,14 @@
 -- What a session of a model did: all that it wrote and called, and its status, as the reference run has it.
 use Rattle.std.specs.Prelude.{◌≡◌, ℕ, zero, suc, ◌≤◌, Bool, true, false, cond, eqb, List, [], ◌∷◌, ◌++◌, length, Option, Some, None}
 use Rattle.txs_outside.specs.Causes.{Rose}
-use Rattle.txs_outside.specs.Known.{Grows, Adds}
+use Rattle.txs_outside.specs.Known.{Grows, Loses, Tells, Adds}
 use Rattle.txs_outside.specs.declared.sut.SutEntry.{SutEntry}
 use Rattle.txs_drive.specs.declared.doing.Doing.TheVariants.{HangUp, Quit}
 use Rattle.txs_drive.specs.declared.model.Model.{Model}
 use Rattle.txs_drive.specs.declared.note.Note.TheVariants as note
 use Rattle.txs_drive.specs.declared.note.Ending.TheVariants.{Link}
 use Rattle.txs_drive.specs.Session.{State, first, dialled_of}
-use Rattle.txs_drive.specs.Course.{Event, does', Leads, lines_in, notes_in, text_of, has_fail, has_quit, IsNoted, hung_after, calls_in}
+use Rattle.txs_drive.specs.Course.{Event, does', Leads, lines_in, notes_in, text_of, has_fail, has_quit, IsNoted, hung_after, calls_in, dialled_in, hung_in, sent_in, told_in, AnyFailed}
 
 -- ---- command bytes
 
@@ -90,7 +90,7 @@ last_of (suc n) = does' HangUp ∷ []
 -- A session of the model, from the first state of the reference run: the commands that the source gave and
 -- their ending, the events that they and the system's answers lead to, and what comes of these: all that was
 -- written, the calls on the system, and the status.
-pub record Served (m : Model) (g0 g1 : Option (List ℕ)) (at_end : Bool) (k0 k1 : Option (List ℕ)) (u0 u1 : Option (List SutEntry)) (h0 h1 : Option ℕ) (f0 f1 : ℕ) (code : ℕ) : Type 0 where
+pub record Served (m : Model) (g0 g1 l0 l1 : Option (List ℕ)) (at_end : Bool) (k0 k1 : Option (List ℕ)) (u0 u1 : Option (List SutEntry)) (h0 h1 : Option ℕ) (f0 f1 : ℕ) (code : ℕ) : Type 0 where
   pub given : List ℕ
   pub commands : List ℕ
   pub ending : Ending
@@ -98,10 +98,11 @@ pub record Served (m : Model) (g0 g1 : Option (List ℕ)) (at_end : Bool) (k0 k1
   pub events : List Event
   pub behind : List (List ℕ)
   pub final : State
-  -- what was read of the source, and how it ended
+  -- what was read of the source, and how it ended; at its end all was read
   pub gave : Grows g0 g1 given
   pub split : Gave ending given commands
-  pub ended : ending ≡ end → at_end ≡ true
+  pub lost : Loses l0 l1 given
+  pub ended : ending ≡ end → (at_end ≡ true) × Tells l0 given
   -- the reference run, which does not stand still
   pub leads : Leads m first events final
   pub lines : command_lines commands ending ≡ lines_in events ++ behind
@@ -110,8 +111,14 @@ pub record Served (m : Model) (g0 g1 : Option (List ℕ)) (at_end : Bool) (k0 k1
   pub text : Grows k0 k1 (text_of m (notes_in events))
   pub calls : Adds u0 u1 (calls_in m events h0)
   pub hang_ups : h1 ≡ hung_after (events ++ last_of (dialled_of final.run)) h0
-  -- LINK only where the system's count of faults rose
+  -- each action that was sent stands there, and no other
+  pub told : sent_in events ≡ told_in (notes_in events)
+  -- the ends were hung up once for each dial that succeeded, and not else
+  pub once : hung_in (events ++ last_of (dialled_of final.run)) ≡ dialled_in events
+  -- LINK only where the system's count of faults rose, and wherever a call failed; without it the count stands
   pub later : f0 ≤ f1
   pub link : IsNoted (note.Ended Link) (notes_in events) → Rose f0 f1
+  pub linked : AnyFailed events → IsNoted (note.Ended Link) (notes_in events)
+  pub unlinked : (IsNoted (note.Ended Link) (notes_in events) → ⊥) → f1 ≡ f0
   -- 10 where FAIL was written, else 0; 3 after a read fault, and 6 at the limit of bytes
   pub status : status_of ending quits (has_fail (notes_in events)) ≡ Some code

@@ -1,7 +1,7 @@
-ghost use Rattle.std.specs.Prelude.{◌≡◌, ◌+◌, ◌≤◌, ◌<◌, ◌^◌, ◌∷◌, [], ◌++◌, length, IfOk, OnOk, Some};
+ghost use Rattle.std.specs.Prelude.{◌≡◌, ℕ, ◌+◌, ◌*◌, ◌≤◌, ◌<◌, ◌^◌, List, ◌∷◌, [], ◌++◌, length, IfOk, OnOk, Some};
 ghost use Rattle.txs_drive.specs.Form;
-ghost use Rattle.txs_drive.specs.Form.{offer};
-ghost use Rattle.txs_drive.specs.Reading.{Reads, as_given, as_taken, name_read, expr_read, position_read, binder, channel_read, step_read, stop_read, behaviour_read};
+ghost use Rattle.txs_drive.specs.Form.{offer, tight, loose};
+ghost use Rattle.txs_drive.specs.Reading.{Reads, as_given, as_taken, name_read, expr_read, position_read, binder, channel_read, prefixed, prefix_read, closed, front_of, grouped, choice_read, front_read, behaviour_read};
 ghost use Rattle.txs_terms.specs.Term.{prefix};
 ghost use Rattle.txs_terms.specs.View;
 ghost use Rattle.txs_terms.specs.View.{expr_of, offers_of, term_of};
@@ -11,7 +11,7 @@ use crate::names::{is_name, name_text};
 use crate::numbers::{are_digits, number_of};
 use sqlite_items::Items;
 use std::alloc::Global;
-use txs_terms::{Expr, Offer, Offers, Position, Term, term_prefix, term_stop};
+use txs_terms::{Expr, Offer, Offers, Position, Term, term_choice, term_prefix, term_stop};
 use txs_values::{Bytes, NoMemory, Value};
 
 /// The place of the last binder of this name.
@@ -112,16 +112,6 @@ fn bind(alloc: Global, bound: &mut Items<Bytes>, position: &Position) -> Result<
     Ok(())
 }
 
-fn stop_of(alloc: Global, word: &[u8]) -> Result<Term, LoadFault>
-    ensures { Reads term_of result (stop_read word.now) }
-{
-    if word == "STOP".as_bytes() {
-        Ok(term_stop(alloc)?)
-    } else {
-        Err(LoadFault::Later)
-    }
-}
-
 /// One offer of one position.
 fn offer_of(alloc: Global, channel: u32, position: Position) -> Result<Offers, NoMemory>
     ensures { IfOk result (λ offers. offers_of offers ≡ offer channel (View.position_of position)) }
@@ -140,65 +130,181 @@ fn prefix(alloc: Global, channel: u32, position: Position, then: Term) -> Result
     term_prefix(alloc, offers, Items::new(alloc), then)
 }
 
-/// A prefix, by its words and those of what follows it.
-#[cycle(behaviour)]
-fn prefix_of(
-    alloc: Global,
-    channels: (&[u8], &[u8]),
-    name: &[u8],
-    sign: &[u8],
-    word: &[u8],
-    more: &[Bytes],
-    bound: &mut Items<Bytes>,
-) -> Result<Term, LoadFault>
-    requires { length bound.old + length more.now + 1 < 2 ^ 32 }
-    ensures { Reads term_of result (step_read (channel_read channels.entry.0.now channels.entry.1.now name.now) (position_read bound.old sign.now word.now) (λ p. behaviour_read channels.entry.0.now channels.entry.1.now (bound.old ++ binder p ∷ []) more.now)) }
-{
-    match channel_of(channels.0, channels.1, name) {
-        None => Err(LoadFault::Later),
-        Some(channel) => match position_of(alloc, sign, word, bound.as_slice()) {
-            Err(fault) => Err(fault),
-            Ok(position) => {
-                bind(alloc, bound, &position)?;
-                match behaviour_of(alloc, channels, more, bound) {
-                    Err(fault) => Err(fault),
-                    Ok(then) => Ok(prefix(alloc, channel, position, then)?),
-                }
-            }
-        },
-    }
-}
-
-/// A behaviour over the two channels, whose words end with the last.
-#[cycle(behaviour)]
-fn behaviour_of(
-    alloc: Global,
-    channels: (&[u8], &[u8]),
-    words: &[Bytes],
-    bound: &mut Items<Bytes>,
-) -> Result<Term, LoadFault>
-    requires { length bound.old + length words.now < 2 ^ 32 }
-    ensures { Reads term_of result (behaviour_read channels.entry.0.now channels.entry.1.now bound.old words.now) }
+/// What stood before `)`, and the words behind that.
+fn closed(group: Term, words: &[Bytes]) -> Result<(Term, &[Bytes]), LoadFault>
+    ensures { Reads front_of result (closed (term_of group) words.now) }
 {
     match words {
         [] => Err(LoadFault::Later),
-        [only] => stop_of(alloc, only.as_slice()),
-        [_, _] => Err(LoadFault::Later),
-        [_, _, _] => Err(LoadFault::Later),
-        [name, sign, word, arrow, more @ ..] => {
+        [first, more @ ..] => {
+            if first.as_slice() == ")".as_bytes() {
+                Ok((group, more))
+            } else {
+                Err(LoadFault::Later)
+            }
+        }
+    }
+}
+
+/// Drops the last name that was bound.
+fn unbind(bound: &mut Items<Bytes>)
+    ensures { (before : List (List ℕ)) → (name : List ℕ) → bound.old ≡ before ++ name ∷ [] → bound.new ≡ before }
+{
+    bound.pop();
+}
+
+/// A prefix of one offer, before what is read behind it, and the words behind that.
+#[cycle(behaviour)]
+fn prefixed<'a>(
+    alloc: Global,
+    channels: (&[u8], &[u8]),
+    channel: u32,
+    position: Position,
+    more: &'a [Bytes],
+    bound: &mut Items<Bytes>,
+) -> Result<(Term, &'a [Bytes]), LoadFault>
+    requires { length bound.old + length more.now + 1 < 2 ^ 32 }
+    ensures read { (k : ℕ) → 2 * length more.now ≤ k → Reads front_of result (prefixed channel (View.position_of position) (front_read k tight channels.entry.0.now channels.entry.1.now (bound.old ++ binder (View.position_of position) ∷ []) more.now)) }
+    ensures kept { OnOk result (bound.new ≡ bound.old) }
+    ensures shorter { IfOk result (λ found. length found.1.now ≤ length more.now) }
+{
+    bind(alloc, bound, &position)?;
+    match tight_of(alloc, channels, more, bound) {
+        Err(fault) => Err(fault),
+        Ok((then, rest)) => {
+            unbind(bound);
+            Ok((prefix(alloc, channel, position, then)?, rest))
+        }
+    }
+}
+
+/// A prefix, whose first word this is, and the words behind it.
+#[cycle(behaviour)]
+fn prefix_of<'a>(
+    alloc: Global,
+    channels: (&[u8], &[u8]),
+    name: &[u8],
+    words: &'a [Bytes],
+    bound: &mut Items<Bytes>,
+) -> Result<(Term, &'a [Bytes]), LoadFault>
+    requires { length bound.old + length words.now < 2 ^ 32 }
+    ensures read { (k : ℕ) → 2 * length words.now ≤ k → Reads front_of result (prefix_read (front_read k tight channels.entry.0.now channels.entry.1.now) channels.entry.0.now channels.entry.1.now bound.old name.now words.now) }
+    ensures kept { OnOk result (bound.new ≡ bound.old) }
+    ensures shorter { IfOk result (λ found. length found.1.now ≤ length words.now) }
+{
+    match words {
+        [sign, word, arrow, more @ ..] => {
             if arrow.as_slice() != ">->".as_bytes() {
                 return Err(LoadFault::Later);
             }
-            prefix_of(
-                alloc,
-                channels,
-                name.as_slice(),
-                sign.as_slice(),
-                word.as_slice(),
-                more,
-                bound,
-            )
+            match channel_of(channels.0, channels.1, name) {
+                None => Err(LoadFault::Later),
+                Some(channel) => match position_of(
+                    alloc,
+                    sign.as_slice(),
+                    word.as_slice(),
+                    bound.as_slice(),
+                ) {
+                    Err(fault) => Err(fault),
+                    Ok(position) => prefixed(alloc, channels, channel, position, more, bound),
+                },
+            }
         }
+        _ => Err(LoadFault::Later),
+    }
+}
+
+/// What stands between parentheses, of which the first is gone, and the words behind them.
+#[cycle(behaviour)]
+fn group_of<'a>(
+    alloc: Global,
+    channels: (&[u8], &[u8]),
+    words: &'a [Bytes],
+    bound: &mut Items<Bytes>,
+) -> Result<(Term, &'a [Bytes]), LoadFault>
+    requires { length bound.old + length words.now < 2 ^ 32 }
+    ensures read { (k : ℕ) → 2 * length words.now < k → Reads front_of result (grouped (front_read k loose channels.entry.0.now channels.entry.1.now bound.old words.now)) }
+    ensures kept { OnOk result (bound.new ≡ bound.old) }
+    ensures shorter { IfOk result (λ found. length found.1.now ≤ length words.now) }
+{
+    match loose_of(alloc, channels, words, bound) {
+        Err(fault) => Err(fault),
+        Ok((group, rest)) => closed(group, rest),
+    }
+}
+
+/// A behaviour that may stand behind `>->`, and the words behind it.
+#[cycle(behaviour)]
+fn tight_of<'a>(
+    alloc: Global,
+    channels: (&[u8], &[u8]),
+    words: &'a [Bytes],
+    bound: &mut Items<Bytes>,
+) -> Result<(Term, &'a [Bytes]), LoadFault>
+    requires { length bound.old + length words.now < 2 ^ 32 }
+    ensures read { (k : ℕ) → 2 * length words.now ≤ k → Reads front_of result (front_read k tight channels.entry.0.now channels.entry.1.now bound.old words.now) }
+    ensures kept { OnOk result (bound.new ≡ bound.old) }
+    ensures shorter { IfOk result (λ found. length found.1.now ≤ length words.now) }
+{
+    match words {
+        [] => Err(LoadFault::Later),
+        [first, more @ ..] => {
+            let word = first.as_slice();
+            if word == "STOP".as_bytes() {
+                Ok((term_stop(alloc)?, more))
+            } else if word == "(".as_bytes() {
+                group_of(alloc, channels, more, bound)
+            } else {
+                prefix_of(alloc, channels, word, more, bound)
+            }
+        }
+    }
+}
+
+/// A choice, whose left side this is, where `##` comes next, and the left side alone where it does not.
+#[cycle(behaviour)]
+fn choice_of<'a>(
+    alloc: Global,
+    channels: (&[u8], &[u8]),
+    left: Term,
+    words: &'a [Bytes],
+    bound: &mut Items<Bytes>,
+) -> Result<(Term, &'a [Bytes]), LoadFault>
+    requires { length bound.old + length words.now < 2 ^ 32 }
+    ensures read { (k : ℕ) → 2 * length words.now ≤ k → Reads front_of result (choice_read (front_read k loose channels.entry.0.now channels.entry.1.now bound.old) (term_of left) words.now) }
+    ensures kept { OnOk result (bound.new ≡ bound.old) }
+    ensures shorter { IfOk result (λ found. length found.1.now ≤ length words.now) }
+{
+    match words {
+        [] => Ok((left, words)),
+        [first, more @ ..] => {
+            if first.as_slice() != "##".as_bytes() {
+                return Ok((left, words));
+            }
+            match loose_of(alloc, channels, more, bound) {
+                Err(fault) => Err(fault),
+                Ok((right, rest)) => Ok((term_choice(alloc, left, right)?, rest)),
+            }
+        }
+    }
+}
+
+/// A behaviour that may be a choice, and the words behind it.
+#[cycle(behaviour)]
+fn loose_of<'a>(
+    alloc: Global,
+    channels: (&[u8], &[u8]),
+    words: &'a [Bytes],
+    bound: &mut Items<Bytes>,
+) -> Result<(Term, &'a [Bytes]), LoadFault>
+    requires { length bound.old + length words.now < 2 ^ 32 }
+    ensures read { (k : ℕ) → 2 * length words.now < k → Reads front_of result (front_read k loose channels.entry.0.now channels.entry.1.now bound.old words.now) }
+    ensures kept { OnOk result (bound.new ≡ bound.old) }
+    ensures shorter { IfOk result (λ found. length found.1.now ≤ length words.now) }
+{
+    match tight_of(alloc, channels, words, bound) {
+        Err(fault) => Err(fault),
+        Ok((left, rest)) => choice_of(alloc, channels, left, rest, bound),
     }
 }
 
@@ -210,8 +316,17 @@ pub fn start_of(
     words: &[Bytes],
 ) -> Result<Term, LoadFault>
     requires { length words.now ≤ 400 }
-    ensures { Reads term_of result (behaviour_read input.now output.now [] words.now) }
+    ensures { Reads term_of result (behaviour_read input.now output.now words.now) }
 {
     let mut bound = Items::new(alloc);
-    behaviour_of(alloc, (input, output), words, &mut bound)
+    match loose_of(alloc, (input, output), words, &mut bound) {
+        Err(fault) => Err(fault),
+        Ok((start, rest)) => {
+            if rest.is_empty() {
+                Ok(start)
+            } else {
+                Err(LoadFault::Later)
+            }
+        }
+    }
 }

@@ -1,16 +1,20 @@
-ghost use Rattle.std.specs.Prelude.{◌≡◌, ◌<◌, false, [], ◌∷◌, IfOk, OnOk, IsErr, IsErrOf, Ok, if◌then◌else◌};
+ghost use Rattle.std.specs.Prelude.{◌≡◌, ◌≢◌, ◌<◌, ℕ, List, Option, false, [], ◌∷◌, IfOk, IfErr, OnOk, OnErr, IsErr, IsErrOf, Ok, Err, if◌then◌else◌};
 ghost use Rattle.txs_outside.specs.Causes.{HasCause};
 ghost use Rattle.txs_outside.specs.Known.{Grows};
 ghost use Rattle.txs_terms.specs.Sets.{IsPlain};
 ghost use Rattle.txs_terms.specs.View.{term_of};
-ghost use Rattle.txs_drive.specs.Session.{dialled_of};
-ghost use Rattle.txs_drive.specs.Ready.{state_of, IsBusy, IsGoing, IsFresh, IsTied, IsPlainRun, Keeps};
-ghost use Rattle.txs_drive.specs.Course.{ends_of};
+ghost use Rattle.txs_drive.specs.Session.{dialled_of, send_told};
+ghost use Rattle.txs_drive.specs.Ready.{state_of, IsBusy, IsGoing, IsFresh, IsTied, IsPlainRun, IsPrepared, Keeps, ToldBy};
+ghost use Rattle.txs_drive.specs.Lines;
+ghost use Rattle.txs_drive.specs.Course.{ends_of, due_in};
+ghost use Rattle.txs_drive.specs.Cut.{Torn};
 ghost use Rattle.txs_drive.specs.Going.{Went, Called, Waited, IsAhead, IsReady, has_left};
+ghost use Rattle.txs_drive.specs.Stopping.{Stopped, Tracks, ends_in};
 
 use crate::lines::{line_of, sent_line};
+use crate::session::Prepared;
 use crate::sign::sign_of;
-use crate::{Doing, Model, Session, Sign};
+use crate::{Doing, Model, Note, Session, Sign};
 use sqlite_items::Items;
 use std::alloc::{AllocError, AllocFailed, Global};
 use txs_outside::{End, Ends, Failed, Sink, Sut};
@@ -74,7 +78,9 @@ impl From<Failed> for Stop {
 /// Writes the whole text.
 pub(crate) fn say<K: Sink>(sink: &mut K, text: &str) -> Result<(), Failed>
     ensures ok { OnOk result (Grows (K.taken sink.old) (K.taken sink.new) text.now) }
+    ensures torn { OnErr result (Torn (K.taken sink.old) (K.taken sink.new) text.now) }
     ensures cause { HasCause (K.faults sink.old) (K.faults sink.new) (IsErr result) }
+    ensures calm { OnOk result (K.faults sink.new ≡ K.faults sink.old) }
 {
     let mut rest = text.as_bytes();
     while !rest.is_empty() {
@@ -114,6 +120,10 @@ fn dial<U: Sut>(
         (U.hang_ups sut.old) (U.hang_ups sut.new) (U.faults sut.old) (U.faults sut.new)) }
     ensures ready { OnOk result (IsReady model.now session.new (U.dialled sut.new)) }
     ensures busy { OnOk result (IsAhead Next.GoesOn (state_of session.old) (state_of session.new)) }
+    ensures stopped { (k : Option (List ℕ)) → OnErr result (Stopped Stop.NoMemory model.now (state_of session.old) (ends_in session.new) k k (U.calls sut.old) (U.calls sut.new)
+        (U.hang_ups sut.old) (U.hang_ups sut.new) (U.faults sut.old) (U.faults sut.new) []) }
+    ensures tracks { Tracks (U.dialled sut.old) (U.dialled sut.new) (ends_in session.old) (ends_in session.new) }
+    ensures undue { OnOk result (due_in (state_of session.new).todo ≡ []) }
 {
     let ends = ends_of(alloc, model)?;
     let ok = sut.dial(&ends).is_ok();
@@ -147,31 +157,78 @@ fn wait<U: Sut>(
         (U.hang_ups sut.old) (U.hang_ups sut.new) (U.faults sut.old) (U.faults sut.new)) }
     ensures ready { OnOk result (IsReady model.now session.new (U.dialled sut.new)) }
     ensures busy { OnOk result (IsAhead Next.GoesOn (state_of session.old) (state_of session.new)) }
+    ensures stopped { (k : Option (List ℕ)) → OnErr result (Stopped Stop.NoMemory model.now (state_of session.old) (ends_in session.new) k k (U.calls sut.old) (U.calls sut.new)
+        (U.hang_ups sut.old) (U.hang_ups sut.new) (U.faults sut.old) (U.faults sut.new) []) }
+    ensures tracks { Tracks (U.dialled sut.old) (U.dialled sut.new) (ends_in session.old) (ends_in session.new) }
+    ensures undue { OnOk result (due_in (state_of session.new).todo ≡ []) }
 {
     let sign = wait_once(sut);
     session.after_wait(alloc, sign)?;
     Ok(())
 }
 
-/// Sends the line of an action.
-fn send<U: Sut>(
+/// Sends the line of an action, behind which all is prepared; answers whether it was sent.
+fn transmit<U: Sut>(
+    session: &mut Session,
+    value: i128,
+    line: &str,
+    prepared: Prepared,
+    sut: &mut U,
+) -> bool
+    requires dialled { 0 < U.dialled sut.old }
+    requires due { (state_of session.old).todo ≡ Doing.Send value ∷ [] }
+    requires going { IsGoing (state_of session.old).run }
+    requires plain { IsPlainRun session.old.run }
+    requires line { line.now ≡ Lines.sent_line value }
+    requires prepared { IsPrepared value session.old prepared }
+    ensures called { (m : Model) → Called m (state_of session.old) (state_of session.new) (U.calls sut.old) (U.calls sut.new)
+        (U.hang_ups sut.old) (U.hang_ups sut.new) (U.faults sut.old) (U.faults sut.new) }
+    ensures told { ToldBy (state_of session.old).run (λ r. send_told value result r (state_of session.old)) (state_of session.new) }
+    ensures kept { (m : Model) → Keeps m session.old.run → Keeps m session.new.run }
+    ensures plain { IsPlainRun session.new.run }
+    ensures busy { IsBusy (state_of session.new).run (state_of session.new).todo }
+    ensures ends { ends_in session.new ≡ ends_in session.old }
+    ensures dialled { U.dialled sut.new ≡ U.dialled sut.old }
+{
+    let ok = sut.send(0, line.as_bytes()).is_ok();
+    session.after_send(value, prepared, ok);
+    ok
+}
+
+/// Sends the line of an action and, where it was sent, writes the line that says so. All memory is found before
+/// it is sent.
+fn send<K: Sink, U: Sut>(
     alloc: Global,
     model: &Model,
     session: &mut Session,
     value: i128,
+    sink: &mut K,
     sut: &mut U,
-) -> Result<(), NoMemory>
+) -> Result<(), Stop>
     requires ready { IsReady model.now session.old (U.dialled sut.old) }
     requires due { (state_of session.old).todo ≡ Doing.Send value ∷ [] }
     requires going { IsGoing (state_of session.old).run }
-    ensures called { OnOk result (Called model.now (state_of session.old) (state_of session.new) (U.calls sut.old) (U.calls sut.new)
-        (U.hang_ups sut.old) (U.hang_ups sut.new) (U.faults sut.old) (U.faults sut.new)) }
+    ensures went { OnOk result (Went model.now (state_of session.old) (state_of session.new) (K.taken sink.old) (K.taken sink.new) (U.calls sut.old) (U.calls sut.new)
+        (U.hang_ups sut.old) (U.hang_ups sut.new) (U.faults sut.old) (U.faults sut.new) [] false) }
     ensures ready { OnOk result (IsReady model.now session.new (U.dialled sut.new)) }
     ensures busy { OnOk result (IsAhead Next.GoesOn (state_of session.old) (state_of session.new)) }
+    ensures stopped { IfErr result (λ stop. Stopped stop model.now (state_of session.old) (ends_in session.new) (K.taken sink.old) (K.taken sink.new) (U.calls sut.old) (U.calls sut.new)
+        (U.hang_ups sut.old) (U.hang_ups sut.new) (U.faults sut.old) (U.faults sut.new) []) }
+    ensures tracks { Tracks (U.dialled sut.old) (U.dialled sut.new) (ends_in session.old) (ends_in session.new) }
+    ensures undue { OnOk result (due_in (state_of session.new).todo ≡ []) }
+    ensures sink { HasCause (K.faults sink.old) (K.faults sink.new) (IsErrOf result Stop.Sink) }
+    ensures calm { result ≢ Err Stop.Sink → K.faults sink.new ≡ K.faults sink.old }
 {
     let line = sent_line(alloc, value)?;
-    let ok = sut.send(0, line.as_str().as_bytes()).is_ok();
-    session.after_send(alloc, value, ok)?;
+    let number = session.number();
+    let said = line_of(alloc, model, Note::In { number, value })?;
+    let prepared = session.prepare(alloc, value)?;
+    let is_sent = transmit(session, value, line.as_str(), prepared, sut);
+    if !is_sent {
+        return Ok(());
+    }
+    session.next();
+    say(sink, said.as_str())?;
     Ok(())
 }
 
@@ -185,11 +242,17 @@ fn step<K: Sink, U: Sut>(
 ) -> Result<Next, Stop>
     requires ready { IsReady model.now session.old (U.dialled sut.old) }
     requires busy { IsBusy (state_of session.old).run (state_of session.old).todo }
+    requires undue { due_in (state_of session.old).todo ≡ [] }
     ensures went { IfOk result (λ n. Went model.now (state_of session.old) (state_of session.new) (K.taken sink.old) (K.taken sink.new) (U.calls sut.old) (U.calls sut.new)
         (U.hang_ups sut.old) (U.hang_ups sut.new) (U.faults sut.old) (U.faults sut.new) [] (has_left n)) }
     ensures ready { OnOk result (IsReady model.now session.new (U.dialled sut.new)) }
     ensures ahead { IfOk result (λ n. IsAhead n (state_of session.old) (state_of session.new)) }
+    ensures stopped { IfErr result (λ stop. Stopped stop model.now (state_of session.old) (ends_in session.new) (K.taken sink.old) (K.taken sink.new) (U.calls sut.old) (U.calls sut.new)
+        (U.hang_ups sut.old) (U.hang_ups sut.new) (U.faults sut.old) (U.faults sut.new) []) }
+    ensures tracks { Tracks (U.dialled sut.old) (U.dialled sut.new) (ends_in session.old) (ends_in session.new) }
+    ensures undue { OnOk result (due_in (state_of session.new).todo ≡ []) }
     ensures sink { HasCause (K.faults sink.old) (K.faults sink.new) (IsErrOf result Stop.Sink) }
+    ensures calm { result ≢ Err Stop.Sink → K.faults sink.new ≡ K.faults sink.old }
 {
     match session.next() {
         Doing::Say(note) => {
@@ -212,7 +275,7 @@ fn step<K: Sink, U: Sut>(
             Ok(Next::GoesOn)
         }
         Doing::Send(value) => {
-            send(alloc, model, session, value, sut)?;
+            send(alloc, model, session, value, sink, sut)?;
             Ok(Next::GoesOn)
         }
     }
@@ -236,7 +299,11 @@ pub(crate) fn carry_out<K: Sink, U: Sut>(
     ensures ready { OnOk result (IsReady model.now session.new (U.dialled sut.new)) }
     ensures idle { OnOk result ((state_of session.new).todo ≡ []) }
     ensures tied { IfOk result (λ q. q ≡ false → IsTied (state_of session.new).run) }
+    ensures stopped { IfErr result (λ stop. Stopped stop model.now (state_of session.old) (ends_in session.new) (K.taken sink.old) (K.taken sink.new) (U.calls sut.old) (U.calls sut.new)
+        (U.hang_ups sut.old) (U.hang_ups sut.new) (U.faults sut.old) (U.faults sut.new) (line.now ∷ [])) }
+    ensures tracks { Tracks (U.dialled sut.old) (U.dialled sut.new) (ends_in session.old) (ends_in session.new) }
     ensures sink { HasCause (K.faults sink.old) (K.faults sink.new) (IsErrOf result Stop.Sink) }
+    ensures calm { result ≢ Err Stop.Sink → K.faults sink.new ≡ K.faults sink.old }
 {
     session.line(alloc, model, line)?;
     'steps: loop {

@@ -1,11 +1,13 @@
-ghost use Rattle.std.specs.Prelude.{◌≡◌, ◌<◌, ◌≤◌, ◌+◌, ◌++◌, ◌∷◌, [], true, false, IfOk, OnOk, IsErrOf, IsTrue, Ok};
+ghost use Rattle.std.specs.Prelude.{◌≡◌, ◌≢◌, ◌<◌, ◌≤◌, ℕ, List, ◌+◌, ◌++◌, ◌∷◌, [], true, false, IfOk, IfErr, OnOk, OnErr, IsErrOf, IsTrue, Ok, Err};
 ghost use Rattle.txs_outside.specs.Causes.{HasCause};
-ghost use Rattle.txs_outside.specs.Known.{Grows};
+ghost use Rattle.txs_outside.specs.Known.{Grows, Loses, Tells};
 ghost use Rattle.txs_terms.specs.Sets.{IsPlain};
 ghost use Rattle.txs_terms.specs.View.{term_of};
 ghost use Rattle.txs_drive.specs.Session.{first};
 ghost use Rattle.txs_drive.specs.Ready.{state_of, IsTied};
 ghost use Rattle.txs_drive.specs.Going.{Took, TookSome, IsReady, HasNoFeed, Conversed, Ended, read_bytes, IsRead};
+ghost use Rattle.txs_drive.specs.Served.{last_part, end};
+ghost use Rattle.txs_drive.specs.Stopping.{Stopped, StoppedIn, Broke, Tracks, ends_in};
 
 use crate::driver::carry_out;
 use crate::{Model, Session, Stop};
@@ -55,7 +57,11 @@ fn take_byte<K: Sink, U: Sut>(
     ensures idle { OnOk result ((state_of session.new).todo ≡ []) }
     ensures tied { IfOk result (λ q. q ≡ false → IsTied (state_of session.new).run) }
     ensures line { OnOk result (HasNoFeed pending.new) }
+    ensures stopped { IfErr result (λ stop. StoppedIn stop model.now (state_of session.old) (ends_in session.new) (K.taken sink.old) (K.taken sink.new) (U.calls sut.old) (U.calls sut.new)
+        (U.hang_ups sut.old) (U.hang_ups sut.new) (U.faults sut.old) (U.faults sut.new) (pending.old ++ byte ∷ [])) }
+    ensures tracks { Tracks (U.dialled sut.old) (U.dialled sut.new) (ends_in session.old) (ends_in session.new) }
     ensures sink { HasCause (K.faults sink.old) (K.faults sink.new) (IsErrOf result Stop.Sink) }
+    ensures calm { result ≢ Err Stop.Sink → K.faults sink.new ≡ K.faults sink.old }
 {
     if byte == b'\n' {
         let quits = carry_out(alloc, model, session, pending.as_slice(), sink, sut)?;
@@ -89,7 +95,11 @@ fn take_piece<K: Sink, U: Sut>(
     ensures idle { OnOk result ((state_of session.new).todo ≡ []) }
     ensures tied { IfOk result (λ q. q ≡ false → IsTied (state_of session.new).run) }
     ensures line { OnOk result (HasNoFeed pending.new) }
+    ensures stopped { IfErr result (λ stop. StoppedIn stop model.now (state_of session.old) (ends_in session.new) (K.taken sink.old) (K.taken sink.new) (U.calls sut.old) (U.calls sut.new)
+        (U.hang_ups sut.old) (U.hang_ups sut.new) (U.faults sut.old) (U.faults sut.new) (pending.old ++ piece.now)) }
+    ensures tracks { Tracks (U.dialled sut.old) (U.dialled sut.new) (ends_in session.old) (ends_in session.new) }
     ensures sink { HasCause (K.faults sink.old) (K.faults sink.new) (IsErrOf result Stop.Sink) }
+    ensures calm { result ≢ Err Stop.Sink → K.faults sink.new ≡ K.faults sink.old }
 {
     for b in piece {
         if take_byte(alloc, model, session, pending, *b, sink, sut)? {
@@ -103,9 +113,12 @@ fn read_piece<S: Source>(alloc: Global, source: &mut S, room: usize) -> Result<R
     requires some { 0 < room }
     requires most { room ≤ 4096 }
     ensures given { IfOk result (λ r. Grows (S.given source.old) (S.given source.new) (read_bytes r)) }
+    ensures lost { IfOk result (λ r. Loses (S.left source.old) (S.left source.new) (read_bytes r)) }
+    ensures unread { OnErr result ((bytes : List ℕ) × Grows (S.given source.old) (S.given source.new) bytes × Loses (S.left source.old) (S.left source.new) bytes) }
     ensures size { IfOk result (λ r. IsRead room r) }
-    ensures end { IfOk result (λ r. r ≡ Read.End → S.at_end source.new ≡ true) }
+    ensures end { IfOk result (λ r. r ≡ Read.End → (S.at_end source.new ≡ true) × Tells (S.left source.old) []) }
     ensures cause { HasCause (S.faults source.old) (S.faults source.new) (result ≡ Ok Read.Failed) }
+    ensures calm { result ≢ Ok Read.Failed → S.faults source.new ≡ S.faults source.old }
 {
     let mut buf = [0u8; 4096];
     match source.read(&mut buf[..room]) {
@@ -148,7 +161,11 @@ fn take_last<K: Sink, U: Sut>(
         line.now f) }
     ensures ready { OnOk result (IsReady model.now session.new (U.dialled sut.new)) }
     ensures idle { OnOk result ((state_of session.new).todo ≡ []) }
+    ensures stopped { IfErr result (λ stop. Stopped stop model.now (state_of session.old) (ends_in session.new) (K.taken sink.old) (K.taken sink.new) (U.calls sut.old) (U.calls sut.new)
+        (U.hang_ups sut.old) (U.hang_ups sut.new) (U.faults sut.old) (U.faults sut.new) (last_part end line.now)) }
+    ensures tracks { Tracks (U.dialled sut.old) (U.dialled sut.new) (ends_in session.old) (ends_in session.new) }
     ensures sink { HasCause (K.faults sink.old) (K.faults sink.new) (IsErrOf result Stop.Sink) }
+    ensures calm { result ≢ Err Stop.Sink → K.faults sink.new ≡ K.faults sink.old }
 {
     if line.is_empty() {
         return Ok(Finish::End);
@@ -171,11 +188,16 @@ pub(crate) fn converse<S: Source, K: Sink, U: Sut>(
     requires start { IsPlain 0 (term_of model.now.start) }
     requires ready { IsReady model.now session.old (U.dialled sut.old) }
     requires new { state_of session.old ≡ first }
-    ensures conversed { IfOk result (λ f. Conversed model.now f (state_of session.new) (S.given source.old) (S.given source.new) (S.at_end source.new) (K.taken sink.old) (K.taken sink.new) (U.calls sut.old) (U.calls sut.new)
+    ensures conversed { IfOk result (λ f. Conversed model.now f (state_of session.new) (S.given source.old) (S.given source.new) (S.left source.old) (S.left source.new) (S.at_end source.new) (K.taken sink.old) (K.taken sink.new) (U.calls sut.old) (U.calls sut.new)
         (U.hang_ups sut.old) (U.hang_ups sut.new) (U.faults sut.old) (U.faults sut.new)) }
     ensures ready { OnOk result (IsReady model.now session.new (U.dialled sut.new)) }
+    ensures broke { IfErr result (λ stop. Broke stop model.now (ends_in session.new) (S.given source.old) (S.given source.new) (S.left source.old) (S.left source.new) (S.at_end source.new) (K.taken sink.old) (K.taken sink.new) (U.calls sut.old) (U.calls sut.new)
+        (U.hang_ups sut.old) (U.hang_ups sut.new) (U.faults sut.old) (U.faults sut.new)) }
+    ensures tracks { Tracks (U.dialled sut.old) (U.dialled sut.new) (ends_in session.old) (ends_in session.new) }
     ensures source { HasCause (S.faults source.old) (S.faults source.new) (result ≡ Ok Finish.Failed) }
+    ensures calm_source { result ≢ Ok Finish.Failed → S.faults source.new ≡ S.faults source.old }
     ensures sink { HasCause (K.faults sink.old) (K.faults sink.new) (IsErrOf result Stop.Sink) }
+    ensures calm { result ≢ Err Stop.Sink → K.faults sink.new ≡ K.faults sink.old }
 {
     let mut pending = Bytes::new(alloc);
     let mut taken: usize = 0;

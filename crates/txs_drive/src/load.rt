@@ -1,7 +1,7 @@
 ghost use Rattle.std.specs.Prelude.{◌≡◌, ◌≤◌, true, length, IfOk, IsErrOf, IsUtf8, MatchOption, None, Some};
 ghost use Rattle.std.specs.List.{AllByRecursion, list_all};
 ghost use Rattle.txs_drive.specs.File;
-ghost use Rattle.txs_drive.specs.File.{IsFile};
+ghost use Rattle.txs_drive.specs.File.{IsFile, StatesOnly};
 ghost use Rattle.txs_drive.specs.Form.{words_of};
 ghost use Rattle.txs_drive.specs.Pieces.{are_named, host_read, is_in_form, model_read, parts_of, pieces_of, same_port, words_read};
 ghost use Rattle.txs_drive.specs.Reading.{Reads, port_read};
@@ -146,6 +146,7 @@ fn load_words(alloc: Global, words: &[Bytes]) -> Result<Model, LoadFault>
 
 fn load_text(alloc: Global, text: &str) -> Result<Model, LoadFault>
     ensures ok { IfOk result (λ m. IsFile text.now m) }
+    ensures only { IfOk result (λ m. StatesOnly text.now m) }
     ensures plain { IfOk result (λ m. IsPlain 0 (term_of m.start)) }
     ensures later { IsErrOf result LoadFault.Later → (m : Model) → IsFile text.now m → ⊥ }
 {
@@ -156,6 +157,7 @@ fn load_text(alloc: Global, text: &str) -> Result<Model, LoadFault>
 /// The model of a file, where it is of the form that is read so far.
 pub fn run_load(alloc: Global, bytes: &[u8]) -> Result<Model, LoadFault>
     ensures ok { IfOk result (λ m. IsFile bytes.now m) }
+    ensures only { IfOk result (λ m. StatesOnly bytes.now m) }
     ensures plain { IfOk result (λ m. IsPlain 0 (term_of m.start)) }
     ensures later { IsErrOf result LoadFault.Later → (m : Model) → IsFile bytes.now m → ⊥ }
 {

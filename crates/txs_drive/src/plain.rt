@@ -5,6 +5,7 @@ ghost use Rattle.txs_terms.specs.Sets.{IsPlain};
 ghost use Rattle.txs_terms.specs.View.{term_of};
 ghost use Rattle.txs_drive.specs.Course.{hung_after};
 ghost use Rattle.txs_drive.specs.Served.{Served, last_of};
+ghost use Rattle.txs_drive.specs.Cut.{Torn, CutShort, by_sink, by_memory};
 ghost use Rattle.txs_drive.specs.Going.{code_of};
 
 use crate::driver::say;
@@ -21,6 +22,8 @@ pub fn close<K: Sink>(sink: &mut K, line: &str, code: u8) -> Status
     ensures written { result.code ≡ code → Grows (K.taken sink.old) (K.taken sink.new) line.now }
     ensures code { (result.code ≡ code) ⊎ (result.code ≡ 4) }
     ensures fault { result.code ≡ 4 → Rose (K.faults sink.old) (K.faults sink.new) }
+    ensures torn { result.code ≡ 4 → Torn (K.taken sink.old) (K.taken sink.new) line.now }
+    ensures calm { result.code ≢ 4 → K.faults sink.new ≡ K.faults sink.old }
 {
     match say(sink, line) {
         Ok(()) => Status { code },
@@ -44,6 +47,7 @@ fn hang_up_last<U: Sut>(dialled: usize, sut: &mut U)
     ensures calls { Adds (U.calls sut.old) (U.calls sut.new) [] }
     ensures hang_ups { U.hang_ups sut.new ≡ hung_after (last_of dialled) (U.hang_ups sut.old) }
     ensures faults { U.faults sut.new ≡ U.faults sut.old }
+    ensures none { U.dialled sut.old ≡ dialled → U.dialled sut.new ≡ 0 }
 {
     if dialled > 0 {
         sut.hang_up();
@@ -62,12 +66,23 @@ pub fn run_plain<S: Source, K: Sink, U: Sut>(
 
     // What was read, written and called, and the status, are those of the reference run.
     ensures served { result.code ≢ 4 → result.code ≢ 5
-        → Served model.now (S.given source.old) (S.given source.new) (S.at_end source.new) (K.taken sink.old) (K.taken sink.new) (U.calls sut.old) (U.calls sut.new)
+        → Served model.now (S.given source.old) (S.given source.new) (S.left source.old) (S.left source.new) (S.at_end source.new) (K.taken sink.old) (K.taken sink.new) (U.calls sut.old) (U.calls sut.new)
         (U.hang_ups sut.old) (U.hang_ups sut.new) (U.faults sut.old) (U.faults sut.new) result.code }
+
+    // Where the sink failed or memory ran out, so far as it came.
+    ensures cut_by_sink { result.code ≡ 4 → CutShort by_sink model.now (S.given source.old) (S.given source.new) (S.left source.old) (S.left source.new) (S.at_end source.new) (K.taken sink.old) (K.taken sink.new) (U.calls sut.old) (U.calls sut.new)
+        (U.hang_ups sut.old) (U.hang_ups sut.new) (U.faults sut.old) (U.faults sut.new) }
+    ensures cut_by_memory { result.code ≡ 5 → CutShort by_memory model.now (S.given source.old) (S.given source.new) (S.left source.old) (S.left source.new) (S.at_end source.new) (K.taken sink.old) (K.taken sink.new) (U.calls sut.old) (U.calls sut.new)
+        (U.hang_ups sut.old) (U.hang_ups sut.new) (U.faults sut.old) (U.faults sut.new) }
+
+    // In the end nothing is dialled.
+    ensures hung { U.dialled sut.old ≡ 0 → U.dialled sut.new ≡ 0 }
 
     // No fault is told by itself, and no other status is given.
     ensures read { result.code ≡ 3 → Rose (S.faults source.old) (S.faults source.new) }
     ensures write { result.code ≡ 4 → Rose (K.faults sink.old) (K.faults sink.new) }
+    ensures all_read { result.code ≢ 3 → S.faults source.new ≡ S.faults source.old }
+    ensures all_written { result.code ≢ 4 → K.faults sink.new ≡ K.faults sink.old }
     ensures known { (result.code ≡ 0) ⊎ (result.code ≡ 10) ⊎ (result.code ≡ 3) ⊎ (result.code ≡ 4) ⊎ (result.code ≡ 5) ⊎ (result.code ≡ 6) }
 {
     let mut session = Session::new(alloc);

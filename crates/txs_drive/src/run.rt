@@ -25,7 +25,7 @@ pub struct Run {
 
 impl Run {
     ghost use Rattle.txs_drive.specs.Session.{new_run, seen_run, over_run};
-    ghost use Rattle.txs_drive.specs.Ready.{run_of, IsKept};
+    ghost use Rattle.txs_drive.specs.Ready.{run_of, IsKept, HasRoom};
 
     /// A run whose ends are not dialled yet.
     pub(crate) fn begin(alloc: Global, model: &Model) -> Result<Run, NoMemory>
@@ -43,16 +43,24 @@ impl Run {
         })
     }
 
-    /// Numbers what was seen, and goes on with the terms after it.
-    pub(crate) fn go_on(&mut self, seen: Seen, set: Items<Term>) -> Result<(), NoMemory>
-        ensures seen { OnOk result (run_of self.new ≡ seen_run seen (run_of self.old)) }
-        ensures set { OnOk result (self.new.set ≡ set) }
-        ensures same { OnErr result (run_of self.new ≡ run_of self.old) }
-        ensures same_set { OnErr result (self.new.set ≡ self.old.set) }
+    /// Makes room for one more element of the trace.
+    pub(crate) fn make_room(&mut self) -> Result<(), NoMemory>
+        ensures same { run_of self.new ≡ run_of self.old }
+        ensures set { self.new.set ≡ self.old.set }
+        ensures room { OnOk result (HasRoom self.new) }
     {
-        self.trace.push(seen)?;
-        self.set = set;
+        self.trace.reserve(1)?;
         Ok(())
+    }
+
+    /// Numbers what was seen, and goes on with the terms after it.
+    pub(crate) fn go_on(&mut self, seen: Seen, set: Items<Term>)
+        requires { HasRoom self.old }
+        ensures seen { run_of self.new ≡ seen_run seen (run_of self.old) }
+        ensures set { self.new.set ≡ set }
+    {
+        self.trace.push_reserved(seen);
+        self.set = set;
     }
 
     /// Numbers what was seen, with which the run ends.

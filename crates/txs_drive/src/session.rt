@@ -19,6 +19,17 @@ pub struct Session {
     todo: Vec<Doing>,
 }
 
+/// What a run goes on with behind an action, made before it is sent.
+#[derive(Debug, Drop)]
+pub(crate) struct Prepared {
+    /// The terms after the action.
+    set: Items<Term>,
+    /// What is to be done where it was sent.
+    sent: Vec<Doing>,
+    /// What is to be done where it could not be sent.
+    unsent: Vec<Doing>,
+}
+
 /// What is to be done, in order.
 fn plan(alloc: Global, doings: &[Doing]) -> Result<Vec<Doing>, NoMemory>
     ensures { IfOk result (λ v. v.items ≡ doings.now) }
@@ -32,6 +43,14 @@ fn plan_fail(alloc: Global, note: Note) -> Result<Vec<Doing>, NoMemory>
 {
     let fail = Doing::Say(Note::Ended(Ending::Fail));
     Ok(plan(alloc, &[Doing::Say(note), fail, Doing::HangUp, Doing::Idle])?)
+}
+
+/// A failed send, with which a run ends.
+fn plan_link(alloc: Global) -> Result<Vec<Doing>, NoMemory>
+    ensures { IfOk result (λ v. v.items ≡ Doing.Say (Note.Ended Ending.Link) ∷ Doing.HangUp ∷ Doing.Idle ∷ []) }
+{
+    let link = Doing::Say(Note::Ended(Ending::Link));
+    Ok(plan(alloc, &[link, Doing::HangUp, Doing::Idle])?)
 }
 
 /// The line of what was seen.
@@ -60,7 +79,7 @@ impl Session {
     ghost use Rattle.txs_drive.specs.Commands.{command_of};
     ghost use Rattle.txs_drive.specs.Course.{asks_nothing};
     ghost use Rattle.txs_drive.specs.Session.{first, started, is_going, dialled_of, hanging, Carries, IfGoing, Stimulates, refused, does, dial_told, send_told, Judges, Heeds, goes_on, seen_run, over_run, ends_with, done};
-    ghost use Rattle.txs_drive.specs.Ready.{state_of, run_of, Keeps, IsBusy, IsGoing, IsFresh, IsTied, IsNext, ToldBy, Judged, HeedsBy, IsPlainRun, IsMoved, AllowedNow, IsObserved, next_number, ends_after};
+    ghost use Rattle.txs_drive.specs.Ready.{state_of, run_of, Keeps, IsBusy, IsGoing, IsFresh, IsTied, IsNext, ToldBy, Judged, HeedsBy, IsPlainRun, IsMoved, IsOver, HasRoomNow, IsPrepared, AllowedNow, IsObserved, next_number, ends_after};
 
     /// A session before its first line.
     pub fn new(alloc: Global) -> Session
@@ -154,7 +173,7 @@ impl Session {
     }
 
     /// The number of the next element of the trace.
-    fn number(&self) -> usize
+    pub(crate) fn number(&self) -> usize
         requires { IsGoing (state_of self.now).run }
         ensures { result ≡ next_number (state_of self.now).run }
     {
@@ -162,24 +181,41 @@ impl Session {
         run.trace.len() + 1
     }
 
+    /// Makes room for one more element of the trace.
+    fn make_room(&mut self) -> Result<(), NoMemory>
+        requires { IsGoing (state_of self.old).run }
+        ensures same { state_of self.new ≡ state_of self.old }
+        ensures kept { (m : Model) → Keeps m self.old.run → Keeps m self.new.run }
+        ensures moved { (m : Model) → (x : Seen) → (set : List Term) → IsMoved m x self.old.run set → IsMoved m x self.new.run set }
+        ensures plain { IsPlainRun self.old.run → IsPlainRun self.new.run }
+        ensures room { OnOk result (HasRoomNow self.new.run) }
+    {
+        let Some(mut run) = self.run.take() else {
+            unreachable!()
+        };
+        let result = run.make_room();
+        self.run = Some(run);
+        result?;
+        Ok(())
+    }
+
     /// Numbers what was seen, and goes on with the terms after it.
-    fn see(&mut self, seen: Seen, set: Items<Term>, todo: Vec<Doing>) -> Result<(), NoMemory>
+    fn see(&mut self, seen: Seen, set: Items<Term>, todo: Vec<Doing>)
         requires going { IsGoing (state_of self.old).run }
+        requires room { HasRoomNow self.old.run }
         requires plain { ArePlain (terms_of set) }
-        ensures seen { OnOk result (ToldBy (state_of self.old).run (λ r. goes_on (seen_run seen r) todo.items (state_of self.old)) (state_of self.new)) }
+        ensures seen { ToldBy (state_of self.old).run (λ r. goes_on (seen_run seen r) todo.items (state_of self.old)) (state_of self.new) }
         ensures going { IsGoing (state_of self.new).run }
-        ensures plain { OnOk result (IsPlainRun self.new.run) }
-        ensures kept { OnOk result ((m : Model) → IsMoved m seen self.old.run set → Keeps m self.new.run) }
+        ensures plain { IsPlainRun self.new.run }
+        ensures kept { (m : Model) → IsMoved m seen self.old.run set → Keeps m self.new.run }
         ensures ends { dialled_of (state_of self.new).run ≡ dialled_of (state_of self.old).run }
     {
         let Some(mut run) = self.run.take() else {
             unreachable!()
         };
-        let result = run.go_on(seen, set);
+        run.go_on(seen, set);
         self.run = Some(run);
-        result?;
         self.todo = todo;
-        Ok(())
     }
 
     /// Numbers what was seen, with which the run ends.
@@ -335,27 +371,60 @@ impl Session {
         Ok(())
     }
 
-    /// The answer to `Send`: whether the line was sent.
-    pub fn after_send(&mut self, alloc: Global, value: i128, ok: bool) -> Result<(), NoMemory>
-        requires due { (state_of self.old).todo ≡ Doing.Send value ∷ [] }
+    /// Makes all that goes on behind an action before it is sent, so that nothing is wanting once it is.
+    pub(crate) fn prepare(&mut self, alloc: Global, value: i128) -> Result<Prepared, NoMemory>
         requires going { IsGoing (state_of self.old).run }
         requires plain { IsPlainRun self.old.run }
-        ensures told { OnOk result (ToldBy (state_of self.old).run (λ r. send_told value ok r (state_of self.old)) (state_of self.new)) }
-        ensures kept { OnOk result ((m : Model) → Keeps m self.old.run → Keeps m self.new.run) }
-        ensures plain { OnOk result (IsPlainRun self.new.run) }
-        ensures busy { OnOk result (IsBusy (state_of self.new).run (state_of self.new).todo) }
-        ensures ends { dialled_of (state_of self.new).run ≡ dialled_of (state_of self.old).run }
+        ensures prepared { IfOk result (λ p. IsPrepared value self.new p) }
+        ensures same { state_of self.new ≡ state_of self.old }
+        ensures kept { (m : Model) → Keeps m self.old.run → Keeps m self.new.run }
+        ensures plain { IsPlainRun self.new.run }
     {
-        if !ok {
-            return Ok(self.end(alloc, Ending::Link)?);
-        }
+        self.make_room()?;
         let number = self.number();
-        let todo = plan(
+        let sent = plan(
             alloc,
             &[Doing::Say(Note::In { number, value }), Doing::Idle],
         )?;
+        let unsent = plan_link(alloc)?;
         let set = self.moved(alloc, Seen::In(value))?;
-        Ok(self.see(Seen::In(value), set, todo)?)
+        Ok(Prepared { set, sent, unsent })
+    }
+
+    /// The run ends, with what is still to be done.
+    fn end_with(&mut self, todo: Vec<Doing>)
+        requires { IsGoing (state_of self.old).run }
+        ensures ended { ToldBy (state_of self.old).run (λ r. goes_on (over_run r) todo.items (state_of self.old)) (state_of self.new) }
+        ensures kept { (m : Model) → Keeps m self.old.run → Keeps m self.new.run }
+        ensures plain { IsPlainRun self.old.run → IsPlainRun self.new.run }
+        ensures over { IsOver (state_of self.new).run }
+        ensures ends { dialled_of (state_of self.new).run ≡ dialled_of (state_of self.old).run }
+    {
+        let Some(run) = &mut self.run else {
+            unreachable!()
+        };
+        run.is_over = true;
+        self.todo = todo;
+    }
+
+    /// The answer to `Send`: whether the line was sent.
+    pub(crate) fn after_send(&mut self, value: i128, prepared: Prepared, ok: bool)
+        requires due { (state_of self.old).todo ≡ Doing.Send value ∷ [] }
+        requires going { IsGoing (state_of self.old).run }
+        requires plain { IsPlainRun self.old.run }
+        requires prepared { IsPrepared value self.old prepared }
+        ensures told { ToldBy (state_of self.old).run (λ r. send_told value ok r (state_of self.old)) (state_of self.new) }
+        ensures kept { (m : Model) → Keeps m self.old.run → Keeps m self.new.run }
+        ensures plain { IsPlainRun self.new.run }
+        ensures busy { IsBusy (state_of self.new).run (state_of self.new).todo }
+        ensures ends { dialled_of (state_of self.new).run ≡ dialled_of (state_of self.old).run }
+    {
+        let Prepared { set, sent, unsent } = prepared;
+        if ok {
+            self.see(Seen::In(value), set, sent);
+        } else {
+            self.end_with(unsent);
+        }
     }
 
     /// Numbers an observation; FAIL follows exactly where the rules do not allow it.
@@ -376,7 +445,9 @@ impl Session {
             return Ok(self.see_last(seen, todo)?);
         }
         let todo = plan(alloc, &[Doing::Say(note), Doing::Idle])?;
-        Ok(self.see(seen, set, todo)?)
+        self.make_room()?;
+        self.see(seen, set, todo);
+        Ok(())
     }
 
     /// The answer to `Wait`, by what it says.

@@ -57,7 +57,7 @@ pub trait Sut {
     /// The number of dialled ends.
     ghost dialled: { Self → ℕ };
 
-    /// How often it failed, up to the type's end.
+    /// How often it failed, up to the type's end. Only a call that failed moves it.
     ghost faults: { Self → ℕ };
 
     /// Connects to each end or, where it is to listen, waits for one connection at each.
@@ -66,7 +66,8 @@ pub trait Sut {
         ensures hang_ups { hang_ups self.new ≡ hang_ups self.old }
         ensures dialled { OnOk result (dialled self.new ≡ length ends.now.list) }
         ensures same { OnErr result (dialled self.new ≡ dialled self.old) }
-        ensures cause { HasCause (faults self.old) (faults self.new) (IsErr result) };
+        ensures cause { HasCause (faults self.old) (faults self.new) (IsErr result) }
+        ensures calm { OnOk result (faults self.new ≡ faults self.old) };
 
     /// What has come, without waiting.
     fn poll(&mut self, buf: &mut [u8]) -> Told
@@ -77,7 +78,8 @@ pub trait Sut {
         ensures calls { Adds (calls self.old) (calls self.new) (record { call = SutCall.Poll (length buf.old) (heard_of result buf.new); hang_ups = number_of (hang_ups self.old) } ∷ []) }
         ensures hang_ups { hang_ups self.new ≡ hang_ups self.old }
         ensures dialled { dialled self.new ≡ dialled self.old }
-        ensures cause { HasCause (faults self.old) (faults self.new) (result ≡ Told.Failed) };
+        ensures cause { HasCause (faults self.old) (faults self.new) (result ≡ Told.Failed) }
+        ensures calm { result ≢ Told.Failed → faults self.new ≡ faults self.old };
 
     /// What comes next, or that nothing comes.
     fn wait(&mut self, buf: &mut [u8]) -> Told
@@ -88,7 +90,8 @@ pub trait Sut {
         ensures calls { Adds (calls self.old) (calls self.new) (record { call = SutCall.Wait (length buf.old) (heard_of result buf.new); hang_ups = number_of (hang_ups self.old) } ∷ []) }
         ensures hang_ups { hang_ups self.new ≡ hang_ups self.old }
         ensures dialled { dialled self.new ≡ dialled self.old }
-        ensures cause { HasCause (faults self.old) (faults self.new) (result ≡ Told.Failed) };
+        ensures cause { HasCause (faults self.old) (faults self.new) (result ≡ Told.Failed) }
+        ensures calm { result ≢ Told.Failed → faults self.new ≡ faults self.old };
 
     /// Sends all the bytes.
     fn send(&mut self, end: u32, bytes: &[u8]) -> Result<(), Failed>
@@ -97,7 +100,8 @@ pub trait Sut {
         ensures calls { Adds (calls self.old) (calls self.new) (record { call = SutCall.Send end bytes.now (is_ok result); hang_ups = number_of (hang_ups self.old) } ∷ []) }
         ensures hang_ups { hang_ups self.new ≡ hang_ups self.old }
         ensures dialled { dialled self.new ≡ dialled self.old }
-        ensures cause { HasCause (faults self.old) (faults self.new) (IsErr result) };
+        ensures cause { HasCause (faults self.old) (faults self.new) (IsErr result) }
+        ensures calm { OnOk result (faults self.new ≡ faults self.old) };
 
     /// Ends the connections. It is no entry of the list of calls.
     fn hang_up(&mut self)

@@ -64,4 +64,8 @@ fn main(rt: HostRuntime) -> anyhow::Result<ExitCode> {
 }
 
 #[cfg(test)]
+mod faults;
+#[cfg(test)]
+mod slow_source;
+#[cfg(test)]
 mod tests;

@@ -7,8 +7,20 @@ use txs_outside::{NamedFile, ScriptEntry, SureFiles, SureSink, SureSource, SureS
 use txs_top::top;
 use txs_values::{Bytes, Text};
 
-const MODEL: &str = "CHANDEF C ::= In , Out :: Int ENDDEF
+/// A system that takes a number and says it again.
+pub const MODEL: &str = "CHANDEF C ::= In , Out :: Int ENDDEF
 MODELDEF A ::= CHAN IN In CHAN OUT Out BEHAVIOUR In ? x >-> Out ! x >-> STOP ENDDEF
+CNECTDEF S ::= CLIENTSOCK
+  CHAN OUT In HOST \"h\" PORT 1 ENCODE In ? x -> ! toString ( x )
+  CHAN IN Out HOST \"h\" PORT 1 DECODE Out ! fromString ( s ) <- ? s
+ENDDEF
+";
+
+/// A system that takes a number, and says it again or says 7.
+pub const CHOICE: &str = "CHANDEF C ::= In , Out :: Int ENDDEF
+MODELDEF A ::= CHAN IN In CHAN OUT Out BEHAVIOUR
+  In ? x >-> ( Out ! x >-> STOP ## Out ! 7 >-> STOP )
+ENDDEF
 CNECTDEF S ::= CLIENTSOCK
   CHAN OUT In HOST \"h\" PORT 1 ENCODE In ? x -> ! toString ( x )
   CHAN IN Out HOST \"h\" PORT 1 DECODE Out ! fromString ( s ) <- ? s

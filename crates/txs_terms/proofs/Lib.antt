@@ -1,5 +1,6 @@
 pub mod Views
 pub mod Actions
+pub mod Members
 pub mod Prefixes
 pub mod MoveLaws
 pub mod QuietLaws

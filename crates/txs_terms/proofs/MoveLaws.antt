@@ -5,11 +5,12 @@ use Rattle.txs_values.specs.Value.{Value, num, fits}
 use Rattle.txs_terms.specs.Expr.{Expr, val, slot}
 use Rattle.txs_terms.specs.Eval.{Defs, Gives}
 use Rattle.txs_terms.specs.Action.{Part, Action, act, channels, values_on, values_over, Scope, IsAction}
-use Rattle.txs_terms.specs.Term.{Position, give, take, Offer, Term, stop, prefix, fill}
-use Rattle.txs_terms.specs.Rules.{In, Model, Meets, Step, offers}
+use Rattle.txs_terms.specs.Term.{Position, give, take, Offer, Term, stop, prefix, choice, fill}
+use Rattle.txs_terms.specs.Rules.{In, Model, Meets, Step, offers, choose_left, choose_right}
 use Rattle.txs_terms.specs.Sets.{IsPlainExpr, IsPlainPosition, ArePlainOffers, IsPlain}
 use Rattle.txs_terms.specs.Moves.{is_number, met_by, offers_met, moves_of}
-use Rattle.txs_terms.proofs.Prefixes.{value_gives, given_value, number_is, same_number, prefix_does, stop_does}
+use Rattle.txs_terms.proofs.Members.{in_front, in_back, in_either}
+use Rattle.txs_terms.proofs.Prefixes.{value_gives, given_value, number_is, same_number, prefix_does, stop_does, choice_does}
 
 same_head : {x y : ℕ} {xs ys : List ℕ} → x ∷ xs ≡ y ∷ ys → x ≡ y
 same_head e = cc
@@ -62,6 +63,10 @@ step_in model scope (prefix (o ∷ []) [] t) a t' h s =
     offer_in model.defs o.channel o.positions a t t' h.0 d.0 d.1.0 d.2
 step_in model scope (prefix [] [] t) a t' h s = absurd h.0
 step_in model scope (prefix (o ∷ o2 ∷ os) [] t) a t' h s = absurd h.0
+step_in model scope (choice l r) a t' h s = elim (choice_does model scope l r (act a) t' s) [
+  | inl x ↦ in_front t' (moves_of l a) (moves_of r a) (step_in model scope l a t' h.0 x)
+  | inr x ↦ in_back t' (moves_of l a) (moves_of r a) (step_in model scope r a t' h.1 x)
+]
 step_in model scope _ a t' h s = absurd h
 
 -- ---- what is listed is a step
@@ -106,4 +111,8 @@ step_is model scope stop a t' p i h = absurd h
 step_is model scope (prefix (o ∷ []) [] t) a t' p i h = offer_is model scope o.channel o.positions a t t' i h
 step_is model scope (prefix [] [] t) a t' p i h = absurd p.0
 step_is model scope (prefix (o ∷ o2 ∷ os) [] t) a t' p i h = absurd p.0
+step_is model scope (choice l r) a t' p i h = elim (in_either t' (moves_of l a) (moves_of r a) h) [
+  | inl x ↦ choose_left (step_is model scope l a t' p.0 i x)
+  | inr x ↦ choose_right (step_is model scope r a t' p.1 i x)
+]
 step_is model scope _ a t' p i h = absurd p

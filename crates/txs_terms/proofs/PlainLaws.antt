@@ -4,7 +4,7 @@ use Rattle.std.proofs.lemmas.Bool.Decides.{Decides-ltb}
 use Rattle.txs_values.specs.Value.{Value, num, fits}
 use Rattle.txs_terms.specs.Expr.{Expr, val, slot, put, filled}
 use Rattle.txs_terms.specs.Action.{Action}
-use Rattle.txs_terms.specs.Term.{Position, give, take, Offer, Term, stop, prefix, put_position, put_offer, fill}
+use Rattle.txs_terms.specs.Term.{Position, give, take, Offer, Term, stop, prefix, choice, put_position, put_offer, fill}
 use Rattle.txs_terms.specs.Sets.{IsPlainExpr, IsPlainPosition, ArePlainOffers, IsPlain, ArePlain, IsOneInt, IsIntAction}
 use Rattle.txs_terms.specs.Moves.{admits, met_by, moves_of, all_moves, speaks, quiet_ones}
 use Rattle.txs_terms.proofs.MoveLaws.{offer_on}
@@ -38,6 +38,7 @@ offers_filled n x (o ∷ o2 ∷ os) f h = absurd h
 pub term_filled : (n : ℕ) (x : ℤ) (t : Term) → fits x ≡ true → IsPlain (n + 1) t → IsPlain n (fill (num x ∷ []) t)
 term_filled n x stop f h = tt
 term_filled n x (prefix os [] t) f h = (offers_filled n x os f h.0, term_filled (n + 1) x t f h.1)
+term_filled n x (choice a b) f h = (term_filled n x a f h.0, term_filled n x b f h.1)
 term_filled n x _ f h = absurd h
 
 -- ---- sets
@@ -56,6 +57,10 @@ met_plain [] (num x ∷ []) t f h = tt
 met_plain (p ∷ q ∷ ps) (num x ∷ []) t f h = tt
 met_plain ps _ t f h = absurd f
 
+plain_both : (ts us : List Term) → ArePlain ts → ArePlain us → ArePlain (ts ++ us)
+plain_both [] us a b = b
+plain_both (t ∷ ts) us a b = (a.0, plain_both ts us a.1 b)
+
 moves_plain : (s : Term) (a : Action) → IsIntAction a → IsPlain 0 s → ArePlain (moves_of s a)
 moves_plain stop a i h = tt
 moves_plain (prefix (o ∷ []) [] t) (p ∷ []) i h =
@@ -63,11 +68,8 @@ moves_plain (prefix (o ∷ []) [] t) (p ∷ []) i h =
 moves_plain (prefix (o ∷ []) [] t) _ i h = absurd i
 moves_plain (prefix [] [] t) a i h = absurd h.0
 moves_plain (prefix (o ∷ o2 ∷ os) [] t) a i h = absurd h.0
+moves_plain (choice l r) a i h = plain_both (moves_of l a) (moves_of r a) (moves_plain l a i h.0) (moves_plain r a i h.1)
 moves_plain _ a i h = absurd h
-
-plain_both : (ts us : List Term) → ArePlain ts → ArePlain us → ArePlain (ts ++ us)
-plain_both [] us a b = b
-plain_both (t ∷ ts) us a b = (a.0, plain_both ts us a.1 b)
 
 pub all_moves_plain : (set : List Term) (a : Action) → IsIntAction a → ArePlain set → ArePlain (all_moves set a)
 all_moves_plain [] a i h = tt

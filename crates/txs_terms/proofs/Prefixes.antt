@@ -1,12 +1,12 @@
 -- The steps of plain terms.
-use Rattle.std.proofs.Common.{◌≡◌, ℕ, ℤ, true, List, [], map, refl, ap, subst}
+use Rattle.std.proofs.Common.{◌≡◌, ◌⊎◌, inl, inr, ℕ, ℤ, true, List, [], map, refl, ap, subst}
 use Rattle.std.proofs.lemmas.Bool.Decides.{Decides-int_eq}
 use Rattle.txs_values.specs.Value.{Value, num}
 use Rattle.txs_terms.specs.Expr.{Expr, val, filled}
 use Rattle.txs_terms.specs.Eval.{Defs, height_limit, node_limit, eval, Gives, got}
 use Rattle.txs_terms.specs.Action.{Action, Label, act, inner, ends, channels, values_over, Scope}
-use Rattle.txs_terms.specs.Term.{Offer, Term, stop, prefix, put_offer, fill}
-use Rattle.txs_terms.specs.Rules.{Model, MeetAll, offered, in_order, Step, offers}
+use Rattle.txs_terms.specs.Term.{Offer, Term, stop, prefix, choice, put_offer, fill}
+use Rattle.txs_terms.specs.Rules.{Model, MeetAll, offered, in_order, Step, offers, choose_left, choose_right}
 use Rattle.txs_terms.specs.After.{Inners, here, onward}
 use Rattle.txs_terms.specs.Sets.{IsPlain}
 use Rattle.txs_terms.specs.Moves.{is_number}
@@ -30,7 +30,7 @@ number_is e v h = cc
 pub same_number : (x : ℤ) → is_number (val (num x)) (num x) ≡ true
 same_number x = (Decides-int_eq x x).1 refl
 
--- ---- what a prefix does
+-- ---- what a plain term does
 
 abbrev pub Does : Model → List Offer → Term → Label → Term → Type 0
 Does model os t (act a) t' = (channels a ≡ in_order (offered os)) × MeetAll model.defs os a × (t' ≡ fill (values_over a (offered os)) t)
@@ -44,11 +44,20 @@ prefix_does model scope os gs t l t' (offers a e i m h) = (e, m, refl)
 pub stop_does : (model : Model) (scope : Scope) (l : Label) (t' : Term) → Step model scope stop l t' → ⊥
 stop_does model scope l t' s = elim s [ ]
 
+pub choice_does : (model : Model) (scope : Scope) (a b : Term) (l : Label) (t' : Term)
+    → Step model scope (choice a b) l t' → Step model scope a l t' ⊎ Step model scope b l t'
+choice_does model scope a b l t' (choose_left s) = inl s
+choice_does model scope a b l t' (choose_right s) = inr s
+
 -- a plain term has no internal step, whatever is put in
 pub still : (model : Model) (scope : Scope) (n : ℕ) (vs : List Value) (t t' : Term) → IsPlain n t
     → Step model scope (fill vs t) inner t' → ⊥
 still model scope n vs stop t' h s = stop_does model scope inner t' s
 still model scope n vs (prefix os [] t) t' h s = prefix_does model scope (map (put_offer (filled vs)) os) [] (fill vs t) inner t' s
+still model scope n vs (choice a b) t' h s = elim (choice_does model scope (fill vs a) (fill vs b) inner t' s) [
+  | inl x ↦ still model scope n vs a t' h.0 x
+  | inr x ↦ still model scope n vs b t' h.1 x
+]
 still model scope n vs _ t' h s = absurd h
 
 pub stays : (model : Model) (scope : Scope) (s t : Term) → ((u : Term) → Step model scope s inner u → ⊥)
@@ -59,6 +68,10 @@ stays model scope s t n (onward x r) = absurd (n _ x)
 pub plain_still : (model : Model) (scope : Scope) (t t' : Term) → IsPlain 0 t → Step model scope t inner t' → ⊥
 plain_still model scope stop t' h s = stop_does model scope inner t' s
 plain_still model scope (prefix os [] t) t' h s = prefix_does model scope os [] t inner t' s
+plain_still model scope (choice a b) t' h s = elim (choice_does model scope a b inner t' s) [
+  | inl x ↦ plain_still model scope a t' h.0 x
+  | inr x ↦ plain_still model scope b t' h.1 x
+]
 plain_still model scope _ t' h s = absurd h
 
 -- nor has a term to which an action leads
@@ -68,4 +81,8 @@ moved_still model scope stop a t u h s x = stop_does model scope (act a) t s
 moved_still model scope (prefix os [] b) a t u h s x =
     let d = prefix_does model scope os [] b (act a) t s in
     still model scope 1 (values_over a (offered os)) b u h.1 (subst (λ v. Step model scope v inner u) d.2 x)
+moved_still model scope (choice l r) a t u h s x = elim (choice_does model scope l r (act a) t s) [
+  | inl y ↦ moved_still model scope l a t u h.0 y x
+  | inr y ↦ moved_still model scope r a t u h.1 y x
+]
 moved_still model scope _ a t u h s x = absurd h

@@ -1,14 +1,15 @@
 -- A plain term is quiescent where it offers nothing on the one channel of outputs.
 use Rattle.std.proofs.Common.{◌≡◌, ℕ, ℤ, pos, Bool, true, false, eqb, eq-eqb, List, [], ◌∷◌, refl, sym, ◌∙◌, subst, inl, inr}
+use Rattle.std.proofs.lemmas.Bool.{or_cases, or_parts}
 use Rattle.txs_values.specs.Value.{num, fits}
 use Rattle.txs_terms.specs.Action.{Action, act, Channels, channels, Scope}
-use Rattle.txs_terms.specs.Term.{Position, give, take, Term, stop, prefix, fill}
-use Rattle.txs_terms.specs.Rules.{In, Model, Step}
+use Rattle.txs_terms.specs.Term.{Position, give, take, Term, stop, prefix, choice, fill}
+use Rattle.txs_terms.specs.Rules.{In, Model, Step, choose_left, choose_right}
 use Rattle.txs_terms.specs.After.{Sync, IsQuiescent}
 use Rattle.txs_terms.specs.Sets.{IsInt, IsPlainPosition, ArePlainOffers, IsPlain}
 use Rattle.txs_terms.specs.Moves.{is_number, admits, offers_met, speaks}
 use Rattle.txs_terms.proofs.Actions.{int_action}
-use Rattle.txs_terms.proofs.Prefixes.{same_number, prefix_does, stop_does, plain_still}
+use Rattle.txs_terms.proofs.Prefixes.{same_number, prefix_does, stop_does, choice_does, plain_still}
 use Rattle.txs_terms.proofs.MoveLaws.{plain_number, offer_on, offer_is}
 
 same_channel : {x y : ℕ} {xs ys : List ℕ} → x ∷ xs ≡ y ∷ ys → x ≡ y
@@ -35,6 +36,12 @@ silent model scope out (prefix (o ∷ []) [] t) a t' p h e x =
     silent_by o.channel o.channel out h refl (same_channel k)
 silent model scope out (prefix [] [] t) a t' p h e x = absurd p.0
 silent model scope out (prefix (o ∷ o2 ∷ os) [] t) a t' p h e x = absurd p.0
+silent model scope out (choice l r) a t' p h e x =
+    let q = or_parts (speaks out l) (speaks out r) h in
+    elim (choice_does model scope l r (act a) t' x) [
+      | inl y ↦ silent model scope out l a t' p.0 q.0 e y
+      | inr y ↦ silent model scope out r a t' p.1 q.1 e y
+    ]
 silent model scope out _ a t' p h e x = absurd p
 
 pub quiet_is : (model : Model) (scope : Scope) (sync : Sync) (out : ℕ) (s : Term) → sync.outs ≡ (out ∷ []) ∷ [] → IsPlain 0 s
@@ -80,6 +87,10 @@ speaks_some model scope out stop i p h = cc
 speaks_some model scope out (prefix (o ∷ []) [] t) i p h = offer_speaks model scope out o.channel o.positions t i p.0 h
 speaks_some model scope out (prefix [] [] t) i p h = absurd p.0
 speaks_some model scope out (prefix (o ∷ o2 ∷ os) [] t) i p h = absurd p.0
+speaks_some model scope out (choice l r) i p h = elim (or_cases (speaks out l) (speaks out r) h) [
+  | inl e ↦ let g = speaks_some model scope out l i p.0 e in (g.0, g.1, g.2, choose_left g.3)
+  | inr e ↦ let g = speaks_some model scope out r i p.1 e in (g.0, g.1, g.2, choose_right g.3)
+]
 speaks_some model scope out _ i p h = absurd p
 
 quiet_by : (model : Model) (scope : Scope) (sync : Sync) (out : ℕ) (s : Term) (x : Bool) → IsInt scope out

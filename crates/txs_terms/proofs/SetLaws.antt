@@ -1,5 +1,5 @@
 -- A set goes on as a trace does.
-use Rattle.std.proofs.Common.{◌≡◌, ◌<◌, ◌⊎◌, ◌↔◌, inl, inr, ℕ, Bool, true, false, cond, List, [], ◌∷◌, ◌++◌, length, refl, sym, ◌∙◌, ap, subst, arith}
+use Rattle.std.proofs.Common.{◌≡◌, ◌<◌, ◌⊎◌, ◌↔◌, inl, inr, ℕ, Bool, true, false, cond, List, [], ◌∷◌, length, refl, sym, ◌∙◌, ap, subst, arith}
 use Rattle.std.proofs.lemmas.List.{length-map}
 use Rattle.txs_terms.specs.declared.term.Term as rust
 use Rattle.txs_terms.specs.Action.{Action, Scope, IsAction}
@@ -9,25 +9,12 @@ use Rattle.txs_terms.specs.After.{Sync, Observable, acted, quiescence, here, Aft
 use Rattle.txs_terms.specs.Sets.{IsAfter, CanDo, IsInt, IsPlain, ArePlain}
 use Rattle.txs_terms.specs.Moves.{moves_of, all_moves, speaks, quiet_ones}
 use Rattle.txs_terms.specs.View.{term_of, terms_of}
+use Rattle.txs_terms.proofs.Members.{in_front, in_back, in_either}
 use Rattle.txs_terms.proofs.Prefixes.{stays, plain_still, moved_still}
 use Rattle.txs_terms.proofs.MoveLaws.{step_in, step_is}
 use Rattle.txs_terms.proofs.QuietLaws.{quiet_is, quiet_speaks_not}
 
 -- ---- lists
-
-in_front : (t : Term) (xs ys : List Term) → In t xs → In t (xs ++ ys)
-in_front t [] ys h = absurd h
-in_front t (x ∷ xs) ys (inl e) = inl e
-in_front t (x ∷ xs) ys (inr h) = inr (in_front t xs ys h)
-
-in_back : (t : Term) (xs ys : List Term) → In t ys → In t (xs ++ ys)
-in_back t [] ys h = h
-in_back t (x ∷ xs) ys h = inr (in_back t xs ys h)
-
-in_either : (t : Term) (xs ys : List Term) → In t (xs ++ ys) → In t xs ⊎ In t ys
-in_either t [] ys h = inr h
-in_either t (x ∷ xs) ys (inl e) = inl (inl e)
-in_either t (x ∷ xs) ys (inr h) = elim (in_either t xs ys h) [ inl l ↦ inl (inr l) | inr r ↦ inr r ]
 
 some_in : (xs : List Term) → 0 < length xs → (t : Term) × In t xs
 some_in [] h = absurd (omega arith)

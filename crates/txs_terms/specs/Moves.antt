@@ -1,10 +1,10 @@
 -- The terms that plain terms lead to, as lists.
-use Rattle.std.specs.Prelude.{ℕ, Bool, true, false, cond, eqb, List, [], ◌∷◌, ◌++◌}
+use Rattle.std.specs.Prelude.{ℕ, Bool, true, false, cond, ◌||◌, eqb, List, [], ◌∷◌, ◌++◌}
 use Rattle.std.specs.Ordering.{int_eq}
 use Rattle.txs_values.specs.Value.{Value, num}
 use Rattle.txs_terms.specs.Expr.{Expr, val}
 use Rattle.txs_terms.specs.Action.{Action}
-use Rattle.txs_terms.specs.Term.{Position, give, take, Offer, Term, prefix, fill}
+use Rattle.txs_terms.specs.Term.{Position, give, take, Offer, Term, prefix, choice, fill}
 
 abbrev pub is_number : Expr → Value → Bool
 is_number (val (num x)) (num y) = int_eq x y
@@ -28,6 +28,7 @@ offers_met _ _ t = []
 -- the terms that the action leads to
 abbrev pub moves_of : Term → Action → List Term
 moves_of (prefix os gs t) a = offers_met os a t
+moves_of (choice a b) x = moves_of a x ++ moves_of b x
 moves_of _ a = []
 
 abbrev pub all_moves : List Term → Action → List Term
@@ -42,6 +43,7 @@ is_offered c _ = false
 -- whether the term offers something on the channel
 abbrev pub speaks : ℕ → Term → Bool
 speaks c (prefix os gs t) = is_offered c os
+speaks c (choice a b) = speaks c a || speaks c b
 speaks c _ = false
 
 -- those that offer nothing on the channel

@@ -3,7 +3,7 @@ use Rattle.std.specs.Prelude.{◌≡◌, ◌↔◌, ℕ, ◌+◌, true, nat_lt, 
 use Rattle.txs_values.specs.Value.{whole, Value, num, fits}
 use Rattle.txs_terms.specs.Expr.{Expr, val, slot}
 use Rattle.txs_terms.specs.Action.{Action, act, Scope, types_on}
-use Rattle.txs_terms.specs.Term.{Position, give, take, Offer, Term, stop, prefix}
+use Rattle.txs_terms.specs.Term.{Position, give, take, Offer, Term, stop, prefix, choice}
 use Rattle.txs_terms.specs.Rules.{In, Model, Step}
 use Rattle.txs_terms.specs.After.{Sync, Observable, After}
 
@@ -40,10 +40,11 @@ ArePlainOffers n (o ∷ []) = IsOnePosition n o.positions
     IsOnePosition n _ = ⊥
 ArePlainOffers n _ = ⊥
 
--- STOP, or a prefix of one offer of one position, without a guard; n slots are free
+-- STOP, a prefix of one offer of one position without a guard, or a choice of two such terms; n slots are free
 abbrev pub IsPlain : ℕ → Term → Type 0
 IsPlain n stop = Unit {0}
 IsPlain n (prefix os [] t) = ArePlainOffers n os × IsPlain (n + 1) t
+IsPlain n (choice a b) = IsPlain n a × IsPlain n b
 IsPlain n _ = ⊥
 
 -- each of them is such a term without a free slot

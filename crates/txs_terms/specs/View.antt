@@ -50,6 +50,7 @@ prefix_by (o ∷ os) gs t = prefix (o ∷ os) gs t
 abbrev pub tree_step : Tree-F Term → Term
 tree_step Tree-F.Stop = stop
 tree_step (Tree-F.Prefix os gs t) = prefix_by (offers_of os) (exprs_of gs) t
+tree_step (Tree-F.Choice a b) = choice a b
 
 abbrev pub tree_of : rust_tree.Tree → Term
 tree_of = fold-Tree Term tree_step

@@ -1,7 +1,7 @@
 ghost use Rattle.std.specs.Prelude.{◌≡◌, ◌<◌, ◌↔◌, [], ◌∷◌, List, length, IfOk, map};
 ghost use Rattle.txs_values.specs.View.{value_of, values_of};
 ghost use Rattle.txs_terms.specs.Action.{Scope, IsAction};
-ghost use Rattle.txs_terms.specs.Term.{Term as Behaviour, prefix};
+ghost use Rattle.txs_terms.specs.Term.{Term as Behaviour};
 ghost use Rattle.txs_terms.specs.Rules.{Model};
 ghost use Rattle.txs_terms.specs.After.{Sync, Observable, acted, quiescence, Out};
 ghost use Rattle.txs_terms.specs.Sets.{IsAfter, CanDo, IsInt, IsPlain, ArePlain, IsIntAction};
@@ -92,10 +92,10 @@ fn offers_met(
 }
 
 /// The terms that the action leads to.
-fn moves(alloc: Global, term: &Term, action: &Action) -> Result<Items<Term>, NoMemory>
-    ensures { IfOk result (λ ts. terms_of ts ≡ moves_of (term_of term.now) (action_of action.now)) }
+fn moves(alloc: Global, tree: &Tree, action: &Action) -> Result<Items<Term>, NoMemory>
+    ensures { IfOk result (λ ts. terms_of ts ≡ moves_of (tree_of tree.now) (action_of action.now)) }
 {
-    match &term.tree {
+    match tree {
         Tree::Stop => Ok(Items::new(alloc)),
         Tree::Prefix(offers, _, then) => offers_met(
             alloc,
@@ -103,6 +103,11 @@ fn moves(alloc: Global, term: &Term, action: &Action) -> Result<Items<Term>, NoM
             action.parts(),
             then.get(),
         ),
+        Tree::Choice(left, right) => {
+            let mut found = moves(alloc, left.get(), action)?;
+            found.append(moves(alloc, right.get(), action)?)?;
+            Ok(found)
+        }
     }
 }
 
@@ -112,7 +117,7 @@ fn all_moves(alloc: Global, set: &[Term], action: &Action) -> Result<Items<Term>
 {
     let mut found = Items::new(alloc);
     for term in set {
-        found.append(moves(alloc, term, action)?)?;
+        found.append(moves(alloc, &term.tree, action)?)?;
     }
     Ok(found)
 }
@@ -127,12 +132,13 @@ fn is_offered(channel: u32, offers: &[Offer]) -> bool
     }
 }
 
-fn speaks(channel: u32, term: &Term) -> bool
-    ensures { result ≡ speaks channel (term_of term.now) }
+fn speaks(channel: u32, tree: &Tree) -> bool
+    ensures { result ≡ speaks channel (tree_of tree.now) }
 {
-    match &term.tree {
+    match tree {
         Tree::Stop => false,
         Tree::Prefix(offers, _, _) => is_offered(channel, offers.as_slice()),
+        Tree::Choice(left, right) => speaks(channel, left.get()) || speaks(channel, right.get()),
     }
 }
 
@@ -141,7 +147,7 @@ fn quiet_ones(alloc: Global, channel: u32, set: &[Term]) -> Result<Items<Term>, 
 {
     let mut found = Items::new(alloc);
     for term in set {
-        if !speaks(channel, term) {
+        if !speaks(channel, &term.tree) {
             found.push(term.copy(alloc)?)?;
         }
     }
@@ -207,120 +213,4 @@ pub fn after_quiescence(alloc: Global, set: &[Term], out: u32) -> Result<Items<T
 }
 
 #[cfg(test)]
-mod tests {
-    use crate::{
-        Action, Expr, Offer, Position, Term, Top, after_action, after_quiescence, first,
-        term_prefix, term_stop,
-    };
-    use sqlite_items::Items;
-    use std::alloc::Global;
-    use std::test::Fail;
-    use txs_values::{NoMemory, Text, Value};
-
-    const IN: u32 = 0;
-
-    const OUT: u32 = 1;
-
-    #[derive(Clone, Copy)]
-    enum Seen {
-        On(u32, i128),
-        Quiet,
-    }
-
-    fn offered(
-        alloc: Global,
-        channel: u32,
-        position: Position,
-        then: Term,
-    ) -> Result<Term, NoMemory>
-        ensures { IfOk result (λ t. term_of t
-            ≡ prefix (record { channel = channel; positions = position_of position ∷ [] } ∷ []) [] (term_of then)) }
-    {
-        let mut positions = Items::new(alloc);
-        positions.push(position)?;
-        let mut offers = Items::new(alloc);
-        offers.push(Offer { channel, positions })?;
-        term_prefix(alloc, offers, Items::new(alloc), then)
-    }
-
-    /// `In ? x >-> Out ! x >-> STOP`
-    fn echo(alloc: Global) -> Result<Term, NoMemory>
-        ensures { IfOk result (λ t. IsPlain 0 (term_of t)) }
-    {
-        let said = offered(alloc, OUT, Position::Give(Expr::Slot(0)), term_stop(alloc)?)?;
-        let heard = Position::Take(Text::from_str(alloc, "x")?);
-        offered(alloc, IN, heard, said)
-    }
-
-    fn next(alloc: Global, set: &[Term], seen: Seen) -> Result<Items<Term>, NoMemory>
-        requires { ArePlain (terms_of set.now) }
-        ensures { IfOk result (λ ts. ArePlain (terms_of ts)) }
-    {
-        match seen {
-            Seen::On(channel, value) => {
-                let action = Action::on(alloc, channel, value)?;
-                let found = after_action(alloc, set, &action)?;
-                Ok(found)
-            }
-            Seen::Quiet => after_quiescence(alloc, set, OUT),
-        }
-    }
-
-    fn after_all(alloc: Global, trace: &[Seen]) -> Result<Items<Term>, NoMemory> {
-        let mut set = first(alloc, &echo(alloc)?)?;
-        for seen in trace {
-            set = next(alloc, set.as_slice(), *seen)?;
-        }
-        Ok(set)
-    }
-
-    #[test]
-    fn members(rt: HostRuntime) -> Result<(), Fail> {
-        let alloc = rt.alloc();
-        let rows: [(&[Seen], usize); 9] = [
-            (&[], 1),
-            (&[Seen::On(IN, 3)], 1),
-            (&[Seen::On(IN, 3), Seen::On(OUT, 3)], 1),
-            (&[Seen::On(IN, 3), Seen::On(OUT, 4)], 0),
-            (&[Seen::On(IN, 3), Seen::On(IN, 3)], 0),
-            (&[Seen::On(OUT, 3)], 0),
-            (
-                &[
-                    Seen::Quiet,
-                    Seen::On(IN, -5),
-                    Seen::On(OUT, -5),
-                    Seen::Quiet,
-                ],
-                1,
-            ),
-            (&[Seen::On(IN, 3), Seen::Quiet], 0),
-            (&[Seen::On(IN, 3), Seen::On(OUT, 3), Seen::On(OUT, 3)], 0),
-        ];
-        for (trace, count) in rows {
-            assert_eq!(rt; after_all(alloc, trace)?.len(), count);
-        }
-        Ok(())
-    }
-
-    /// The number that is offered on `Out`, where that is all.
-    fn said(top: &Top) -> Option<i128> {
-        let Top::Prefix(offers, _, _) = top else {
-            return None;
-        };
-        let [offer] = offers.as_slice() else {
-            return None;
-        };
-        match offer.positions.as_slice() {
-            [Position::Give(Expr::Value(Value::Int(x)))] if offer.channel == OUT => Some(*x),
-            _ => None,
-        }
-    }
-
-    #[test]
-    fn says_what_it_heard(rt: HostRuntime) -> Result<(), Fail> {
-        let set = after_all(rt.alloc(), &[Seen::On(IN, 3)])?;
-        let member = set.get(0).ok_or("nothing")?;
-        assert_eq!(rt; said(&member.top(rt.alloc())?), Some(3));
-        Ok(())
-    }
-}
+mod tests;

@@ -14,4 +14,4 @@ pub use after::{after_action, after_quiescence, first};
 pub use expr::{Expr, Exprs, copy_exprs};
 pub use offer::{Offer, Offers, Position, Positions, copy_offers};
 pub use slots::fill;
-pub use term::{Call, ChanTypes, Names, Term, Top, term_prefix, term_stop};
+pub use term::{Call, ChanTypes, Names, Term, Top, term_choice, term_prefix, term_stop};

@@ -103,6 +103,12 @@ pub fn fill_tree(alloc: Global, tree: &Tree, values: &[Value]) -> Result<Tree, N
             let then = fill_tree(alloc, then.get(), values)?;
             Ok(Tree::Prefix(offers, guards, Boxed::new(alloc, then)?))
         }
+        Tree::Choice(left, right) => {
+            let left = fill_tree(alloc, left.get(), values)?;
+            let right = fill_tree(alloc, right.get(), values)?;
+            let left = Boxed::new(alloc, left)?;
+            Ok(Tree::Choice(left, Boxed::new(alloc, right)?))
+        }
     }
 }
 

@@ -1,5 +1,5 @@
 ghost use Rattle.std.specs.Prelude.{◌≡◌, IfOk};
-ghost use Rattle.txs_terms.specs.Term.{stop};
+ghost use Rattle.txs_terms.specs.Term.{stop, choice};
 ghost use Rattle.txs_terms.specs.View.{exprs_of, offers_of, prefix_by, term_of, top_of};
 
 use crate::action::Channels;
@@ -79,6 +79,17 @@ pub fn term_prefix(
     })
 }
 
+/// What goes on as the one of the two that takes the first step.
+pub fn term_choice(alloc: Global, left: Term, right: Term) -> Result<Term, NoMemory>
+    ensures { IfOk result (λ t. term_of t ≡ choice (term_of left) (term_of right)) }
+{
+    let left = Boxed::new(alloc, left.tree)?;
+    let right = Boxed::new(alloc, right.tree)?;
+    Ok(Term {
+        tree: Tree::Choice(left, right),
+    })
+}
+
 impl Term {
     /// The outermost form, with the terms below it.
     pub fn top(&self, alloc: Global) -> Result<Top, NoMemory>
@@ -91,6 +102,11 @@ impl Term {
                 let guards = copy_exprs(alloc, guards.as_slice())?;
                 let tree = copy_tree(alloc, then.get())?;
                 Ok(Top::Prefix(offers, guards, Term { tree }))
+            }
+            Tree::Choice(left, right) => {
+                let left = copy_tree(alloc, left.get())?;
+                let right = copy_tree(alloc, right.get())?;
+                Ok(Top::Choice(Term { tree: left }, Term { tree: right }))
             }
         }
     }

@@ -12,6 +12,7 @@ use txs_values::NoMemory;
 pub enum Tree {
     Stop,
     Prefix(Offers, Exprs, Boxed<Tree>),
+    Choice(Boxed<Tree>, Boxed<Tree>),
 }
 
 pub fn copy_tree(alloc: Global, tree: &Tree) -> Result<Tree, NoMemory>
@@ -24,6 +25,12 @@ pub fn copy_tree(alloc: Global, tree: &Tree) -> Result<Tree, NoMemory>
             let guards = copy_exprs(alloc, guards.as_slice())?;
             let then = copy_tree(alloc, then.get())?;
             Ok(Tree::Prefix(offers, guards, Boxed::new(alloc, then)?))
+        }
+        Tree::Choice(left, right) => {
+            let left = copy_tree(alloc, left.get())?;
+            let right = copy_tree(alloc, right.get())?;
+            let left = Boxed::new(alloc, left)?;
+            Ok(Tree::Choice(left, Boxed::new(alloc, right)?))
         }
     }
 }

@@ -1,10 +1,8 @@
 -- What the words of the program ask for, and what a run of a file does.
-use Rattle.std.specs.Prelude.{◌≡◌, ◌<◌, ℕ, Bool, List, [], ◌∷◌, length, codes, Option, IfSome}
+use Rattle.std.specs.Prelude.{◌≡◌, ◌<◌, ℕ, List, [], ◌∷◌, length, codes, Option, IfSome}
 use Rattle.txs_outside.specs.Known.{Tells}
-use Rattle.txs_outside.specs.declared.sut.SutEntry.{SutEntry}
 use Rattle.txs_drive.specs.declared.model.Model.{Model}
-use Rattle.txs_drive.specs.File.{IsFile}
-use Rattle.txs_drive.specs.Served.{Served}
+use Rattle.txs_drive.specs.File.{IsFile, StatesOnly}
 
 -- the words ask for a run of this file
 abbrev pub IsRun : List (List ℕ) → List ℕ → Type 0
@@ -24,18 +22,18 @@ pub record Asked (words : List (List ℕ)) (contents : List ℕ → Option (List
   pub run : IsRun words file
   pub holds : Tells (contents file) bytes
 
--- a session of the model that the file states
-pub record RanFile (contents : Option (List ℕ)) (g0 g1 : Option (List ℕ)) (at_end : Bool) (k0 k1 : Option (List ℕ)) (u0 u1 : Option (List SutEntry)) (h0 h1 : Option ℕ) (f0 f1 : ℕ) (code : ℕ) : Type 0 where
+-- this holds of the model that the file states, and it states no other
+pub record OfFile (contents : Option (List ℕ)) (P : Model → Type 0) : Type 0 where
   pub bytes : List ℕ
   pub holds : Tells contents bytes
   pub model : Model
   pub states : IsFile bytes model
-  pub served : Served model g0 g1 at_end k0 k1 u0 u1 h0 h1 f0 f1 code
+  pub only : StatesOnly bytes model
+  pub did : P model
 
--- the words ask for a run of a file, and this is a session of its model
-abbrev pub Ran : List (List ℕ) → (List ℕ → Option (List ℕ)) → Option (List ℕ) → Option (List ℕ) → Bool → Option (List ℕ) → Option (List ℕ) → Option (List SutEntry) → Option (List SutEntry) → Option ℕ → Option ℕ → ℕ → ℕ → ℕ → Type 0
-Ran words contents g0 g1 at_end k0 k1 u0 u1 h0 h1 f0 f1 code =
-    (file : List ℕ) × IsRun words file × RanFile (contents file) g0 g1 at_end k0 k1 u0 u1 h0 h1 f0 f1 code
+-- the words ask for a run of a file, and this holds of its model
+abbrev pub Ran : List (List ℕ) → (List ℕ → Option (List ℕ)) → (Model → Type 0) → Type 0
+Ran words contents P = (file : List ℕ) × IsRun words file × OfFile (contents file) P
 
 -- more than 1,048,576 bytes, where they are told
 abbrev pub IsLong : Option (List ℕ) → Type 0

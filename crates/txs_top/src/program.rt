@@ -2,7 +2,9 @@ ghost use Rattle.std.specs.Prelude.{◌≡◌, ◌⊎◌, ◌≢◌, ◌<◌, �
 ghost use Rattle.txs_outside.specs.Causes.{Rose};
 ghost use Rattle.txs_outside.specs.Known.{Grows, Tells};
 ghost use Rattle.txs_drive.specs.File.{IsFile};
-ghost use Rattle.txs_top.specs.Top.{IsRun, IsNoForm, IsNoFile, Asked, Ran, RanFile, IsTooLong, IsLong};
+ghost use Rattle.txs_drive.specs.Served.{Served};
+ghost use Rattle.txs_drive.specs.Cut.{Torn, CutShort, by_sink, by_memory};
+ghost use Rattle.txs_top.specs.Top.{IsRun, IsNoForm, IsNoFile, Asked, Ran, OfFile, IsTooLong, IsLong};
 
 use std::alloc::Global;
 use txs_drive::{LoadFault, close, run_load, run_plain};
@@ -21,9 +23,9 @@ fn run<F: Files, S: Source, K: Sink, U: Sut>(
     sink: &mut K,
     sut: &mut U,
 ) -> Status
-    ensures headline { (result.code ≡ 0) ⊎ (result.code ≡ 10) → RanFile (F.contents files.old file.now)
-        (S.given source.old) (S.given source.new) (S.at_end source.new) (K.taken sink.old) (K.taken sink.new)
-        (U.calls sut.old) (U.calls sut.new) (U.hang_ups sut.old) (U.hang_ups sut.new) (U.faults sut.old) (U.faults sut.new) result.code }
+    ensures headline { (result.code ≡ 0) ⊎ (result.code ≡ 10) → OfFile (F.contents files.old file.now) (λ m. Served m
+        (S.given source.old) (S.given source.new) (S.left source.old) (S.left source.new) (S.at_end source.new) (K.taken sink.old) (K.taken sink.new)
+        (U.calls sut.old) (U.calls sut.new) (U.hang_ups sut.old) (U.hang_ups sut.new) (U.faults sut.old) (U.faults sut.new) result.code) }
     ensures refused { (bytes : List ℕ) → F.contents files.old file.now ≡ Some bytes → length bytes ≤ 1048576 → IsNoFile bytes
         → (result.code ≡ 2) ⊎ (result.code ≡ 4) ⊎ (result.code ≡ 5) ⊎ (result.code ≡ 3) × Rose (F.faults files.old) (F.faults files.new) }
     ensures refused_only { result.code ≡ 2 → (bytes : List ℕ) × Tells (F.contents files.old file.now) bytes × IsNoFile bytes }
@@ -32,15 +34,29 @@ fn run<F: Files, S: Source, K: Sink, U: Sut>(
     ensures refused_alone { result.code ≡ 2 → (source.new ≡ source.old) × (sut.new ≡ sut.old) }
     ensures read { result.code ≡ 3 →
         Rose (F.faults files.old) (F.faults files.new) × (source.new ≡ source.old) × (sink.new ≡ sink.old) × (sut.new ≡ sut.old)
-        ⊎ Rose (S.faults source.old) (S.faults source.new) × RanFile (F.contents files.old file.now)
-        (S.given source.old) (S.given source.new) (S.at_end source.new) (K.taken sink.old) (K.taken sink.new)
-        (U.calls sut.old) (U.calls sut.new) (U.hang_ups sut.old) (U.hang_ups sut.new) (U.faults sut.old) (U.faults sut.new) result.code }
+        ⊎ Rose (S.faults source.old) (S.faults source.new) × OfFile (F.contents files.old file.now) (λ m. Served m
+        (S.given source.old) (S.given source.new) (S.left source.old) (S.left source.new) (S.at_end source.new) (K.taken sink.old) (K.taken sink.new)
+        (U.calls sut.old) (U.calls sut.new) (U.hang_ups sut.old) (U.hang_ups sut.new) (U.faults sut.old) (U.faults sut.new) result.code) }
     ensures write { result.code ≡ 4 → Rose (K.faults sink.old) (K.faults sink.new) }
+    ensures torn { result.code ≡ 4 →
+        ((bytes : List ℕ) × Tells (F.contents files.old file.now) bytes × IsNoFile bytes
+        × Torn (K.taken sink.old) (K.taken sink.new) (codes "REFUSED Later 0\n") × (source.new ≡ source.old) × (sut.new ≡ sut.old))
+        ⊎ OfFile (F.contents files.old file.now) (λ m. CutShort by_sink m
+        (S.given source.old) (S.given source.new) (S.left source.old) (S.left source.new) (S.at_end source.new) (K.taken sink.old) (K.taken sink.new)
+        (U.calls sut.old) (U.calls sut.new) (U.hang_ups sut.old) (U.hang_ups sut.new) (U.faults sut.old) (U.faults sut.new)) }
+    ensures memory { result.code ≡ 5 →
+        (source.new ≡ source.old) × (sink.new ≡ sink.old) × (sut.new ≡ sut.old)
+        ⊎ OfFile (F.contents files.old file.now) (λ m. CutShort by_memory m
+        (S.given source.old) (S.given source.new) (S.left source.old) (S.left source.new) (S.at_end source.new) (K.taken sink.old) (K.taken sink.new)
+        (U.calls sut.old) (U.calls sut.new) (U.hang_ups sut.old) (U.hang_ups sut.new) (U.faults sut.old) (U.faults sut.new)) }
+    ensures all_read { result.code ≢ 3 → (F.faults files.new ≡ F.faults files.old) × (S.faults source.new ≡ S.faults source.old) }
+    ensures all_written { result.code ≢ 4 → K.faults sink.new ≡ K.faults sink.old }
+    ensures hung { U.dialled sut.old ≡ 0 → U.dialled sut.new ≡ 0 }
     ensures limit { result.code ≡ 6 →
         IsLong (F.contents files.old file.now) × (source.new ≡ source.old) × (sink.new ≡ sink.old) × (sut.new ≡ sut.old)
-        ⊎ RanFile (F.contents files.old file.now)
-        (S.given source.old) (S.given source.new) (S.at_end source.new) (K.taken sink.old) (K.taken sink.new)
-        (U.calls sut.old) (U.calls sut.new) (U.hang_ups sut.old) (U.hang_ups sut.new) (U.faults sut.old) (U.faults sut.new) result.code }
+        ⊎ OfFile (F.contents files.old file.now) (λ m. Served m
+        (S.given source.old) (S.given source.new) (S.left source.old) (S.left source.new) (S.at_end source.new) (K.taken sink.old) (K.taken sink.new)
+        (U.calls sut.old) (U.calls sut.new) (U.hang_ups sut.old) (U.hang_ups sut.new) (U.faults sut.old) (U.faults sut.new) result.code) }
     ensures file_limit { (bytes : List ℕ) → F.contents files.old file.now ≡ Some bytes → 1048576 < length bytes
         → (result.code ≡ 6) ⊎ (result.code ≡ 5) ⊎ (result.code ≡ 3) × Rose (F.faults files.old) (F.faults files.new) }
     ensures long_unread { (bytes : List ℕ) → F.contents files.old file.now ≡ Some bytes → 1048576 < length bytes
@@ -73,9 +89,9 @@ pub fn top<F: Files, S: Source, K: Sink, U: Sut>(
 ) -> Status
     // A session's status: what it wrote and called, and the status, are those of the reference run of the file's model,
     // for the commands that the source gave and what the system told.
-    ensures headline { (result.code ≡ 0) ⊎ (result.code ≡ 10) → Ran (map string_bytes words.now) (F.contents files.old)
-        (S.given source.old) (S.given source.new) (S.at_end source.new) (K.taken sink.old) (K.taken sink.new)
-        (U.calls sut.old) (U.calls sut.new) (U.hang_ups sut.old) (U.hang_ups sut.new) (U.faults sut.old) (U.faults sut.new) result.code }
+    ensures headline { (result.code ≡ 0) ⊎ (result.code ≡ 10) → Ran (map string_bytes words.now) (F.contents files.old) (λ m. Served m
+        (S.given source.old) (S.given source.new) (S.left source.old) (S.left source.new) (S.at_end source.new) (K.taken sink.old) (K.taken sink.new)
+        (U.calls sut.old) (U.calls sut.new) (U.hang_ups sut.old) (U.hang_ups sut.new) (U.faults sut.old) (U.faults sut.new) result.code) }
 
     // Status 1 stands exactly where the words fit no form, but for a fault of the sink; then the usage line is written
     // and nothing else is done.
@@ -97,20 +113,43 @@ pub fn top<F: Files, S: Source, K: Sink, U: Sut>(
     // Status 3 stands only where the count of the files or of the source rose.
     ensures read { result.code ≡ 3 →
         Rose (F.faults files.old) (F.faults files.new) × (source.new ≡ source.old) × (sink.new ≡ sink.old) × (sut.new ≡ sut.old)
-        ⊎ Rose (S.faults source.old) (S.faults source.new) × Ran (map string_bytes words.now) (F.contents files.old)
-        (S.given source.old) (S.given source.new) (S.at_end source.new) (K.taken sink.old) (K.taken sink.new)
-        (U.calls sut.old) (U.calls sut.new) (U.hang_ups sut.old) (U.hang_ups sut.new) (U.faults sut.old) (U.faults sut.new) result.code }
+        ⊎ Rose (S.faults source.old) (S.faults source.new) × Ran (map string_bytes words.now) (F.contents files.old) (λ m. Served m
+        (S.given source.old) (S.given source.new) (S.left source.old) (S.left source.new) (S.at_end source.new) (K.taken sink.old) (K.taken sink.new)
+        (U.calls sut.old) (U.calls sut.new) (U.hang_ups sut.old) (U.hang_ups sut.new) (U.faults sut.old) (U.faults sut.new) result.code) }
 
-    // Status 4 stands only where the sink's count rose.
+    // Status 4 stands only where the sink's count rose. A beginning of the line that was due is taken then, behind the
+    // whole lines of the session, whose calls were made up to there.
     ensures write { result.code ≡ 4 → Rose (K.faults sink.old) (K.faults sink.new) }
+    ensures torn { result.code ≡ 4 →
+        IsNoForm (map string_bytes words.now) × Torn (K.taken sink.old) (K.taken sink.new) (codes "usage: txs run FILE\n")
+        ⊎ ((bytes : List ℕ) × Asked (map string_bytes words.now) (F.contents files.old) bytes × IsNoFile bytes
+        × Torn (K.taken sink.old) (K.taken sink.new) (codes "REFUSED Later 0\n") × (source.new ≡ source.old) × (sut.new ≡ sut.old))
+        ⊎ Ran (map string_bytes words.now) (F.contents files.old) (λ m. CutShort by_sink m
+        (S.given source.old) (S.given source.new) (S.left source.old) (S.left source.new) (S.at_end source.new) (K.taken sink.old) (K.taken sink.new)
+        (U.calls sut.old) (U.calls sut.new) (U.hang_ups sut.old) (U.hang_ups sut.new) (U.faults sut.old) (U.faults sut.new)) }
+
+    // Where memory ran out, nothing was done yet, or NOMEM closes the whole lines of the session, whose calls were made
+    // up to there.
+    ensures memory { result.code ≡ 5 →
+        (source.new ≡ source.old) × (sink.new ≡ sink.old) × (sut.new ≡ sut.old)
+        ⊎ Ran (map string_bytes words.now) (F.contents files.old) (λ m. CutShort by_memory m
+        (S.given source.old) (S.given source.new) (S.left source.old) (S.left source.new) (S.at_end source.new) (K.taken sink.old) (K.taken sink.new)
+        (U.calls sut.old) (U.calls sut.new) (U.hang_ups sut.old) (U.hang_ups sut.new) (U.faults sut.old) (U.faults sut.new)) }
+
+    // A failed read leads to 3 and a failed write to 4: with another status no count rose.
+    ensures all_read { result.code ≢ 3 → (F.faults files.new ≡ F.faults files.old) × (S.faults source.new ≡ S.faults source.old) }
+    ensures all_written { result.code ≢ 4 → K.faults sink.new ≡ K.faults sink.old }
+
+    // In the end nothing is dialled, whatever the status.
+    ensures hung { U.dialled sut.old ≡ 0 → U.dialled sut.new ≡ 0 }
 
     // Status 6 stands exactly where the file is too long or a byte past the limit of commands was read, but for a fault
     // or want of memory.
     ensures limit { result.code ≡ 6 →
         IsTooLong (map string_bytes words.now) (F.contents files.old) × (source.new ≡ source.old) × (sink.new ≡ sink.old) × (sut.new ≡ sut.old)
-        ⊎ Ran (map string_bytes words.now) (F.contents files.old)
-        (S.given source.old) (S.given source.new) (S.at_end source.new) (K.taken sink.old) (K.taken sink.new)
-        (U.calls sut.old) (U.calls sut.new) (U.hang_ups sut.old) (U.hang_ups sut.new) (U.faults sut.old) (U.faults sut.new) result.code }
+        ⊎ Ran (map string_bytes words.now) (F.contents files.old) (λ m. Served m
+        (S.given source.old) (S.given source.new) (S.left source.old) (S.left source.new) (S.at_end source.new) (K.taken sink.old) (K.taken sink.new)
+        (U.calls sut.old) (U.calls sut.new) (U.hang_ups sut.old) (U.hang_ups sut.new) (U.faults sut.old) (U.faults sut.new) result.code) }
     ensures file_limit { (file : List ℕ) (bytes : List ℕ) → IsRun (map string_bytes words.now) file → F.contents files.old file ≡ Some bytes → 1048576 < length bytes
         → (result.code ≡ 6) ⊎ (result.code ≡ 5) ⊎ (result.code ≡ 3) × Rose (F.faults files.old) (F.faults files.new) }
     ensures long_unread { (file : List ℕ) (bytes : List ℕ) → IsRun (map string_bytes words.now) file → F.contents files.old file ≡ Some bytes → 1048576 < length bytes

@@ -1,7 +1,12 @@
-use Rattle.std.proofs.Common.{arith, refl}
+use Rattle.std.proofs.Common.{◌∷◌, [], ◌∙◌, ap, arith, refl, sym}
 use Rattle.txs_drive.specs.Ready.{state_of}
 use Rattle.txs_drive.proofs.Calls.{dialled_same}
 use Rattle.txs_drive.proofs.Courses.{went_then, went_line}
+use Rattle.txs_drive.specs.declared.driver.Stop.TheVariants.{NoMemory}
+use Rattle.txs_drive.proofs.Stops.{if_err, stopped_here, went_stopped}
+use Rattle.txs_drive.specs.Commands.{command_of}
+use Rattle.txs_drive.specs.Course.{due_in}
+use Rattle.txs_drive.proofs.Told.{carries_undue}
 use Rattle.txs_drive.proofs.driver.carry_out.Goals as goal
 
 pub steps-init : goal.steps-init
@@ -12,8 +17,10 @@ steps-init g c = record {
     plain = c.in_ok-line.ensures.plain;
     dialled = dialled_same _ _ _ _ refl c.in_ok-line.ensures.ends c.requires.ready.dialled;
   };
+  tracks = λ e. e ∙ sym c.in_ok-line.ensures.ends;
   busy = c.in_ok-line.ensures.busy;
-  later = omega arith;
+  undue = carries_undue c.args.model.now (command_of c.args.model.now c.args.line.now) (state_of c.args.session.now) (state_of c.line.new.self) c.in_ok-line.ensures.carries;
+  calm = refl;
 }
 
 pub steps-preserved : goal.steps-preserved
@@ -23,8 +30,10 @@ steps-preserved g c =
     record {
       went = went_then _ _ _ _ _ _ _ _ _ _ _ _ _ _ _ _ _ _ _ c.steps.invariant.went went;
       ready = c.in_ok-step.ensures.ready;
+      tracks = λ e. c.in_ok-step.ensures.tracks (c.steps.invariant.tracks e);
       busy = ahead.0;
-      later = omega (arith, c.steps.invariant.later, c.in_ok-step.ensures.sink.later);
+      undue = c.in_ok-step.ensures.undue;
+      calm = c.in_ok-step.ensures.calm (λ e. cc) ∙ c.steps.invariant.calm;
     }
 
 pub returns-in-Idle-clause-went : goal.returns-in-Idle-clause-went
@@ -32,3 +41,13 @@ returns-in-Idle-clause-went g c = let went = rw c.in-Idle.is at c.in_ok-step.ens
 
 pub returns-in-Quit-clause-went : goal.returns-in-Quit-clause-went
 returns-in-Quit-clause-went g c = let went = rw c.in-Quit.is at c.in_ok-step.ensures.went in went_then _ _ _ _ _ _ _ _ _ _ _ _ _ _ _ _ _ _ _ c.steps.invariant.went went
+
+pub returns-in_err-line-clause-stopped : goal.returns-in_err-line-clause-stopped
+returns-in_err-line-clause-stopped g c =
+    if_err _ _ NoMemory c.from_residual.result c.from_residual.ensures.1 (λ y h. h)
+    (stopped_here c.args.model.now (state_of c.args.session.now) _ _ _ _ _ (c.args.line.now ∷ []) (ap due_in c.requires.idle) c.line.ensures.ends)
+
+pub returns-in_err-step-clause-stopped : goal.returns-in_err-step-clause-stopped
+returns-in_err-step-clause-stopped g c =
+    if_err _ _ c.in_err-step.field-0.0 c.from_residual-in_err-step.result c.from_residual-in_err-step.ensures.1 (λ y h. h)
+    (went_stopped _ _ _ _ _ _ _ _ _ _ _ _ _ _ _ _ _ _ _ c.steps.invariant.went c.in_err-step.ensures.stopped)

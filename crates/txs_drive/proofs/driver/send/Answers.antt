@@ -1,35 +1,72 @@
-use Rattle.std.proofs.Common.{◌≡◌, ◌∷◌, ◌∙◌, [], List, ℕ, Bool, is_ok, ap, subst, sym, FitsSigned, rules}
+use Rattle.std.proofs.Common.{◌≡◌, ◌∙◌, [], refl, ap, arith, rules, FitsSigned}
 use Rattle.std.specs.Int.{w128}
 use Rattle.std.proofs.lemmas.Int.{to_z-of_z}
-use Rattle.txs_outside.specs.Known.{Adds}
-use Rattle.txs_outside.specs.declared.sut.SutEntry.{SutEntry}
-use Rattle.txs_outside.specs.declared.sut.SutCall.TheVariants.{Send}
-use Rattle.txs_drive.specs.Course.{entry}
-use Rattle.txs_drive.specs.Lines.{sent_line}
+use Rattle.txs_drive.specs.declared.driver.Stop.TheVariants.{Sink, NoMemory}
+use Rattle.txs_drive.specs.declared.note.Note.TheVariants.{In}
+use Rattle.txs_drive.specs.Lines.{line_of}
+use Rattle.txs_drive.specs.Session.{State, dialled_of}
 use Rattle.txs_drive.specs.Ready.{state_of}
-use Rattle.txs_drive.proofs.Calls.{called_send, told_rank, err_of, dialled_same}
+use Rattle.txs_drive.proofs.Calls.{dialled_same}
+use Rattle.txs_drive.proofs.Stops.{if_err, stopped_here}
+use Rattle.txs_drive.proofs.Sending.{went_sent, went_unsent, stopped_sent, ends_sent, undue_sent}
+use Rattle.txs_drive.specs.Course.{due_in}
+use Rattle.txs_drive.proofs.Told.{unsent_undue}
 use Rattle.txs_drive.proofs.driver.send.Goals as goal
 
-pub returns-clause-called : goal.returns-clause-called
-returns-clause-called g c =
+pub returns-in_err-line-clause-stopped : goal.returns-in_err-line-clause-stopped
+returns-in_err-line-clause-stopped g c =
+    if_err _ _ NoMemory c.from_residual.result c.from_residual.ensures.1 (λ y h. h)
+    (stopped_here c.args.model.now (state_of c.args.session.now) _ _ _ _ _ [] (ap due_in c.requires.due) refl)
+
+pub returns-in_err-said-clause-stopped : goal.returns-in_err-said-clause-stopped
+returns-in_err-said-clause-stopped g c =
+    if_err _ _ NoMemory c.from_residual-in_err-said.result c.from_residual-in_err-said.ensures.1 (λ y h. h)
+    (stopped_here c.args.model.now (state_of c.args.session.now) _ _ _ _ _ [] (ap due_in c.requires.due) refl)
+
+pub returns-in_err-prepared-clause-stopped : goal.returns-in_err-prepared-clause-stopped
+returns-in_err-prepared-clause-stopped g c =
+    if_err _ _ NoMemory c.from_residual-in_err-prepared.result c.from_residual-in_err-prepared.ensures.1 (λ y h. h)
+    (stopped_here c.args.model.now (state_of c.args.session.now) _ _ _ _ _ [] (ap due_in c.requires.due) (ap (λ (s : State). dialled_of s.run) c.prepare.ensures.same))
+
+pub returns-then-not-is_sent-clause-went : goal.returns-then-not-is_sent-clause-went
+returns-then-not-is_sent-clause-went g c =
+    went_unsent c.args.model.now (state_of c.args.session.now) (state_of c.prepare.new.self) (state_of c.transmit-is_sent.new.session) _ _ _ _ _ _ _ c.prepare.ensures.same (c.transmit-is_sent.ensures.called c.args.model.now)
+
+pub returns-in_err-say-clause-stopped : goal.returns-in_err-say-clause-stopped
+returns-in_err-say-clause-stopped g c =
     let fits : FitsSigned w128 c.args.value = c.ranges.value in
-    let ok : c.is_ok-ok.result ≡ is_ok c.send.result = c.is_ok-ok.ensures.value in
-    let line : c.as_bytes.result.now ≡ sent_line c.args.value = search rules in
-    let added : entry (g.U.Sut.hang_ups c.args.sut.now) (Send 0 c.as_bytes.result.now (is_ok c.send.result)) ∷ [] ≡ entry (g.U.Sut.hang_ups c.args.sut.now) (Send 0 (sent_line c.args.value) c.is_ok-ok.result) ∷ []
-    = ap (λ (x : List ℕ). entry (g.U.Sut.hang_ups c.args.sut.now) (Send 0 x (is_ok c.send.result)) ∷ []) line
-    ∙ ap (λ (b : Bool). entry (g.U.Sut.hang_ups c.args.sut.now) (Send 0 (sent_line c.args.value) b) ∷ []) (sym ok) in
-    called_send c.args.model.now (state_of c.args.session.now) (state_of c.after_send.new.self) _ _ _ _ _ _ c.args.value c.is_ok-ok.result c.requires.due (simp to_z-of_z at c.in_ok-after_send.ensures.told)
-    (subst (λ (x : List SutEntry). Adds (g.U.Sut.calls c.args.sut.now) (g.U.Sut.calls c.send.new.self) x) added c.send.ensures.calls)
-    c.send.ensures.hang_ups c.send.ensures.cause.later (λ e. c.send.ensures.cause.failed (err_of c.send.result (sym ok ∙ e)))
+    let line : c.as_str-2.result.now ≡ line_of c.args.model.now (In c.number-number.result c.args.value) = search rules in
+    if_err _ _ Sink c.from_residual-in_err-say.result c.from_residual-in_err-say.ensures.1 (λ y h. h)
+    (stopped_sent c.args.model.now (state_of c.args.session.now) (state_of c.prepare.new.self) (state_of c.transmit-is_sent.new.session) (state_of c.next.new.self) _ _ _ _ _ _ _ _ _ c.args.value c.number-number.result c.transmit-is_sent.result
+    c.next.result c.as_str-2.result.now c.prepare.ensures.same (c.transmit-is_sent.ensures.called c.args.model.now) c.if-not-is_sent.false (simp to_z-of_z at c.transmit-is_sent.ensures.told) c.number-number.ensures c.next.ensures.next line
+    c.in_err-say.ensures.torn c.next.ensures.ends)
+
+pub returns-clause-went : goal.returns-clause-went
+returns-clause-went g c =
+    let fits : FitsSigned w128 c.args.value = c.ranges.value in
+    let line : c.as_str-2.result.now ≡ line_of c.args.model.now (In c.number-number.result c.args.value) = search rules in
+    went_sent c.args.model.now (state_of c.args.session.now) (state_of c.prepare.new.self) (state_of c.transmit-is_sent.new.session) (state_of c.next.new.self) _ _ _ _ _ _ _ _ c.args.value c.number-number.result c.transmit-is_sent.result
+    c.next.result c.as_str-2.result.now c.prepare.ensures.same (c.transmit-is_sent.ensures.called c.args.model.now) c.if-not-is_sent.false (simp to_z-of_z at c.transmit-is_sent.ensures.told) c.number-number.ensures c.next.ensures.next line
+    c.in_ok-say.ensures.ok
 
 pub returns-clause-ready : goal.returns-clause-ready
-returns-clause-ready g c = record {
-  kept = c.in_ok-after_send.ensures.kept c.args.model.now c.requires.ready.kept;
-  plain = c.in_ok-after_send.ensures.plain;
-  dialled = dialled_same _ _ _ _ c.send.ensures.dialled c.in_ok-after_send.ensures.ends c.requires.ready.dialled;
-}
-
-pub returns-clause-busy : goal.returns-clause-busy
-returns-clause-busy g c =
+returns-clause-ready g c =
     let fits : FitsSigned w128 c.args.value = c.ranges.value in
-    (c.in_ok-after_send.ensures.busy, rw c.requires.due (told_rank c.args.value c.is_ok-ok.result (state_of c.args.session.now).run (state_of c.args.session.now) _ (simp to_z-of_z at c.in_ok-after_send.ensures.told)))
+    let same : dialled_of (state_of c.next.new.self).run ≡ dialled_of (state_of c.transmit-is_sent.new.session).run
+    = ends_sent (state_of c.args.session.now) (state_of c.prepare.new.self) (state_of c.transmit-is_sent.new.session) (state_of c.next.new.self) c.args.value c.number-number.result _ c.transmit-is_sent.result c.next.result
+    c.prepare.ensures.same c.if-not-is_sent.false (simp to_z-of_z at c.transmit-is_sent.ensures.told) c.number-number.ensures c.next.ensures.next c.next.ensures.ends in
+    record {
+      kept = c.next.ensures.kept c.args.model.now (c.transmit-is_sent.ensures.kept c.args.model.now (c.prepare.ensures.kept c.args.model.now c.requires.ready.kept));
+      plain = c.next.ensures.plain c.transmit-is_sent.ensures.plain;
+      dialled = dialled_same _ _ _ _ c.transmit-is_sent.ensures.dialled (same ∙ (c.transmit-is_sent.ensures.ends ∙ ap (λ (s : State). dialled_of s.run) c.prepare.ensures.same)) c.requires.ready.dialled;
+    }
+
+pub returns-then-not-is_sent-clause-undue : goal.returns-then-not-is_sent-clause-undue
+returns-then-not-is_sent-clause-undue g c =
+    unsent_undue _ c.transmit-is_sent.result (state_of c.prepare.new.self).run (state_of c.prepare.new.self) (state_of c.transmit-is_sent.new.session) c.if-not-is_sent.true c.transmit-is_sent.ensures.told
+
+pub returns-clause-undue : goal.returns-clause-undue
+returns-clause-undue g c =
+    let fits : FitsSigned w128 c.args.value = c.ranges.value in
+    undue_sent (state_of c.args.session.now) (state_of c.prepare.new.self) (state_of c.transmit-is_sent.new.session) (state_of c.next.new.self) c.args.value c.number-number.result c.transmit-is_sent.result c.next.result
+    c.prepare.ensures.same c.if-not-is_sent.false (simp to_z-of_z at c.transmit-is_sent.ensures.told) c.number-number.ensures c.next.ensures.next

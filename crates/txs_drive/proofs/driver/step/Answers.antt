@@ -1,8 +1,11 @@
-use Rattle.std.proofs.Common.{◌≡◌, refl, arith, rules}
+use Rattle.std.proofs.Common.{◌≡◌, [], refl, arith, rules}
 use Rattle.txs_drive.specs.Lines.{line_of}
 use Rattle.txs_drive.specs.Ready.{state_of}
 use Rattle.txs_drive.proofs.Calls.{dialled_same}
 use Rattle.txs_drive.proofs.Courses.{went_said, went_hung, went_idle, went_quit}
+use Rattle.txs_drive.specs.declared.driver.Stop.TheVariants.{Sink, NoMemory}
+use Rattle.txs_drive.proofs.Stops.{if_err, stopped_here, stopped_torn}
+use Rattle.txs_drive.proofs.Told.{next_undue}
 use Rattle.txs_drive.proofs.driver.step.Goals as goal
 
 pub dial-requires-clause-ready : goal.dial-requires-clause-ready
@@ -74,3 +77,27 @@ returns-in-Quit-clause-ready g c = record {
   plain = c.in-Quit.ensures.plain c.requires.ready.plain;
   dialled = dialled_same _ _ _ _ refl c.in-Quit.ensures.ends c.requires.ready.dialled;
 }
+
+pub returns-in_err-line-in-Say-clause-stopped : goal.returns-in_err-line-in-Say-clause-stopped
+returns-in_err-line-in-Say-clause-stopped g c =
+    if_err _ _ NoMemory c.from_residual.result c.from_residual.ensures.1 (λ y h. h)
+    (stopped_here c.args.model.now (state_of c.args.session.now) _ _ _ _ _ [] c.requires.undue c.in-Say.ensures.ends)
+
+pub returns-in_err-say-in-Say-clause-stopped : goal.returns-in_err-say-in-Say-clause-stopped
+returns-in_err-say-in-Say-clause-stopped g c =
+    let n = c.in-Say.ensures.next in
+    let line : c.as_str.result.now ≡ line_of c.args.model.now c.in-Say.note = search rules in
+    if_err _ _ Sink c.from_residual-in_err-say-in-Say.result c.from_residual-in_err-say-in-Say.ensures.1 (λ y h. h)
+    (stopped_torn c.args.model.now (state_of c.args.session.now) _ _ _ _ _ _ c.in-Say.note n.0 c.as_str.result.now n.1 line c.in_err-say-in-Say.ensures.torn c.in-Say.ensures.ends)
+
+pub returns-in_ok-say-in-Say-clause-undue : goal.returns-in_ok-say-in-Say-clause-undue
+returns-in_ok-say-in-Say-clause-undue g c = next_undue _ (state_of c.args.session.now) (state_of c.next.new.self) c.in-Say.ensures.next c.requires.undue
+
+pub returns-in-HangUp-clause-undue : goal.returns-in-HangUp-clause-undue
+returns-in-HangUp-clause-undue g c = next_undue _ (state_of c.args.session.now) (state_of c.next.new.self) c.in-HangUp.ensures.next c.requires.undue
+
+pub returns-in-Idle-clause-undue : goal.returns-in-Idle-clause-undue
+returns-in-Idle-clause-undue g c = next_undue _ (state_of c.args.session.now) (state_of c.next.new.self) c.in-Idle.ensures.next c.requires.undue
+
+pub returns-in-Quit-clause-undue : goal.returns-in-Quit-clause-undue
+returns-in-Quit-clause-undue g c = next_undue _ (state_of c.args.session.now) (state_of c.next.new.self) c.in-Quit.ensures.next c.requires.undue

@@ -1,5 +1,8 @@
 use Rattle.txs_drive.specs.Ready.{state_of}
 use Rattle.txs_drive.proofs.Calls.{called_wait, heeded_rank, dialled_same}
+use Rattle.txs_drive.specs.Course.{waits}
+use Rattle.txs_drive.proofs.Stops.{on_err, stopped_unheeded}
+use Rattle.txs_drive.proofs.Told.{heeds_undue}
 use Rattle.txs_drive.proofs.driver.wait.Goals as goal
 
 pub returns-clause-called : goal.returns-clause-called
@@ -16,3 +19,13 @@ returns-clause-ready g c = record {
   plain = c.in_ok-after_wait.ensures.plain;
   dialled = dialled_same _ _ _ _ c.wait_once-sign.ensures.dialled c.in_ok-after_wait.ensures.ends c.requires.ready.dialled;
 }
+
+pub returns-in_err-after_wait-clause-stopped : goal.returns-in_err-after_wait-clause-stopped
+returns-in_err-after_wait-clause-stopped g c k =
+    let w = c.wait_once-sign.ensures.called in
+    on_err c.from_residual.result (stopped_unheeded c.args.model.now (state_of c.args.session.now) _ k _ _ _ _ _ _ (waits w.heard) c.requires.due w.called
+    c.wait_once-sign.ensures.hang_ups w.later c.after_wait.ensures.ends)
+
+pub returns-clause-undue : goal.returns-clause-undue
+returns-clause-undue g c =
+    heeds_undue c.args.model.now c.wait_once-sign.result (state_of c.args.session.now).run (state_of c.args.session.now) (state_of c.after_wait.new.self) (c.in_ok-after_wait.ensures.heeds c.args.model.now c.requires.ready.kept)

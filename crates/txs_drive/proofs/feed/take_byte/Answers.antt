@@ -1,7 +1,9 @@
-use Rattle.std.proofs.Common.{◌∷◌, ◌++◌, [], List, ℕ, false, subst, sym}
+use Rattle.std.proofs.Common.{◌∷◌, ◌++◌, [], List, ℕ, false, refl, subst, sym}
 use Rattle.txs_drive.specs.Ready.{state_of}
 use Rattle.txs_drive.specs.Going.{Took}
 use Rattle.txs_drive.proofs.Feeding.{took_part}
+use Rattle.txs_drive.specs.declared.driver.Stop.TheVariants.{NoMemory}
+use Rattle.txs_drive.proofs.Stops.{if_err, stopped_in_part}
 use Rattle.txs_drive.proofs.feed.take_byte.Goals as goal
 
 pub returns-in_ok-push-clause-took : goal.returns-in_ok-push-clause-took
@@ -10,3 +12,8 @@ returns-in_ok-push-clause-took g c =
     (g.U.Sut.hang_ups c.args.sut.now) (g.U.Sut.hang_ups c.args.sut.now) (g.U.Sut.faults c.args.sut.now) (g.U.Sut.faults c.args.sut.now) (c.args.pending.now ++ c.args.byte ∷ []) r false)
     (sym c.in_ok-push.ensures.ok)
     (took_part c.args.model.now (state_of c.args.session.now) (g.K.Sink.taken c.args.sink.now) (g.U.Sut.calls c.args.sut.now) (g.U.Sut.hang_ups c.args.sut.now) (g.U.Sut.faults c.args.sut.now) (c.args.pending.now ++ c.args.byte ∷ []))
+
+pub returns-in_err-push-clause-stopped : goal.returns-in_err-push-clause-stopped
+returns-in_err-push-clause-stopped g c =
+    if_err _ _ NoMemory c.from_residual-in_err-push.result c.from_residual-in_err-push.ensures.1 (λ y h. h)
+    (stopped_in_part c.args.model.now (state_of c.args.session.now) _ _ _ _ _ (c.args.pending.now ++ c.args.byte ∷ []) c.requires.idle refl)

@@ -1,7 +1,9 @@
-use Rattle.std.proofs.Common.{◌+◌, ◌++◌, ◌∷◌, [], ℕ, List, true, false, subst, sym, append-nil, arith, get_or, take, drop}
+use Rattle.std.proofs.Common.{◌+◌, ◌++◌, ◌∙◌, refl, ◌∷◌, [], ℕ, List, true, false, subst, sym, append-nil, arith, get_or, take, drop}
 use Rattle.txs_drive.specs.Ready.{state_of}
 use Rattle.txs_drive.specs.Going.{Took}
 use Rattle.txs_drive.proofs.Feeding.{took_then, took_part, took_more, take_step, take_rest}
+use Rattle.txs_drive.specs.Stopping.{StoppedIn, ends_in}
+use Rattle.txs_drive.proofs.Stops.{if_err, took_stopped, stopped_in_more}
 use Rattle.txs_drive.proofs.feed.take_piece.Goals as goal
 
 pub loop-b-init : goal.loop-b-init
@@ -10,10 +12,11 @@ loop-b-init g c = record {
       (g.U.Sut.hang_ups c.args.sut.now) (g.U.Sut.hang_ups c.args.sut.now) (g.U.Sut.faults c.args.sut.now) (g.U.Sut.faults c.args.sut.now) z c.args.pending.now false) (sym (append-nil c.args.pending.now))
       (took_part c.args.model.now (state_of c.args.session.now) (g.K.Sink.taken c.args.sink.now) (g.U.Sut.calls c.args.sut.now) (g.U.Sut.hang_ups c.args.sut.now) (g.U.Sut.faults c.args.sut.now) c.args.pending.now);
   ready = c.requires.ready;
+  tracks = λ e. e;
   idle = c.requires.idle;
   tied = c.requires.tied;
   line = c.requires.line;
-  later = omega arith;
+  calm = refl;
 }
 
 pub loop-b-preserved : goal.loop-b-preserved
@@ -25,10 +28,11 @@ loop-b-preserved g c =
           (take_step c.args.pending.now c.args.piece.now c.loop-b.b-index c.loop-b-test.true)
           (took_then _ _ _ _ _ _ _ _ _ _ _ _ _ _ _ _ (c.args.pending.now ++ take c.loop-b.b-index c.args.piece.now) (get_or c.args.piece.now c.loop-b.b-index 0 ∷ []) _ _ _ c.loop-b.invariant.took took);
       ready = c.in_ok-take_byte.ensures.ready;
+      tracks = λ e. c.in_ok-take_byte.ensures.tracks (c.loop-b.invariant.tracks e);
       idle = c.in_ok-take_byte.ensures.idle;
       tied = c.in_ok-take_byte.ensures.tied c.if-branch.false;
       line = c.in_ok-take_byte.ensures.line;
-      later = omega (arith, c.loop-b.invariant.later, c.in_ok-take_byte.ensures.sink.later);
+      calm = c.in_ok-take_byte.ensures.calm (λ e. cc) ∙ c.loop-b.invariant.calm;
     }
 
 pub returns-then-branch-clause-took : goal.returns-then-branch-clause-took
@@ -47,3 +51,17 @@ returns-then-branch-clause-took g c =
           (took_more _ _ _ _ _ _ _ _ _ _ _ _ _ (drop (c.loop-b.b-index + 1) c.args.piece.now) _ all),
       λ e. cc,
     )
+
+pub returns-in_err-take_byte-clause-stopped : goal.returns-in_err-take_byte-clause-stopped
+returns-in_err-take_byte-clause-stopped g c =
+    let all : StoppedIn c.in_err-take_byte.field-0.0 c.args.model.now (state_of c.args.session.now) (ends_in c.take_byte.new.session) (g.K.Sink.taken c.args.sink.now) (g.K.Sink.taken c.take_byte.new.sink) (g.U.Sut.calls c.args.sut.now) (g.U.Sut.calls c.take_byte.new.sut)
+    (g.U.Sut.hang_ups c.args.sut.now) (g.U.Sut.hang_ups c.take_byte.new.sut) (g.U.Sut.faults c.args.sut.now) (g.U.Sut.faults c.take_byte.new.sut) (c.args.pending.now ++ take (c.loop-b.b-index + 1) c.args.piece.now)
+    = subst (λ (z : List ℕ). StoppedIn c.in_err-take_byte.field-0.0 c.args.model.now (state_of c.args.session.now) (ends_in c.take_byte.new.session) (g.K.Sink.taken c.args.sink.now) (g.K.Sink.taken c.take_byte.new.sink) (g.U.Sut.calls c.args.sut.now) (g.U.Sut.calls c.take_byte.new.sut)
+    (g.U.Sut.hang_ups c.args.sut.now) (g.U.Sut.hang_ups c.take_byte.new.sut) (g.U.Sut.faults c.args.sut.now) (g.U.Sut.faults c.take_byte.new.sut) z)
+    (take_step c.args.pending.now c.args.piece.now c.loop-b.b-index c.loop-b-test.true)
+    (took_stopped _ _ _ _ _ _ _ _ _ _ _ _ _ _ _ _ _ (c.args.pending.now ++ take c.loop-b.b-index c.args.piece.now) (get_or c.args.piece.now c.loop-b.b-index 0 ∷ []) _ c.loop-b.invariant.took c.in_err-take_byte.ensures.stopped) in
+    if_err _ _ c.in_err-take_byte.field-0.0 c.from_residual.result c.from_residual.ensures.1 (λ y h. h)
+    (subst (λ (z : List ℕ). StoppedIn c.in_err-take_byte.field-0.0 c.args.model.now (state_of c.args.session.now) (ends_in c.take_byte.new.session) (g.K.Sink.taken c.args.sink.now) (g.K.Sink.taken c.take_byte.new.sink) (g.U.Sut.calls c.args.sut.now) (g.U.Sut.calls c.take_byte.new.sut)
+    (g.U.Sut.hang_ups c.args.sut.now) (g.U.Sut.hang_ups c.take_byte.new.sut) (g.U.Sut.faults c.args.sut.now) (g.U.Sut.faults c.take_byte.new.sut) z)
+    (take_rest c.args.pending.now c.args.piece.now (c.loop-b.b-index + 1))
+    (stopped_in_more _ _ _ _ _ _ _ _ _ _ _ _ _ (drop (c.loop-b.b-index + 1) c.args.piece.now) all))

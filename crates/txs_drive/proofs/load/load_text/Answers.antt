@@ -4,7 +4,7 @@ use Rattle.std.specs.Str.{IsUtf8}
 use Rattle.txs_drive.specs.Form.{words_of}
 use Rattle.txs_drive.specs.Pieces.{parts_of, words_read}
 use Rattle.txs_drive.specs.Reading.{Reads}
-use Rattle.txs_drive.proofs.Files.{ok-file, plain-file, later-file}
+use Rattle.txs_drive.proofs.Files.{ok-file, only-file, plain-file, later-file}
 use Rattle.txs_drive.proofs.Texts.{words-texts}
 use Rattle.txs_drive.proofs.load.load_text.Goals as goal
 
@@ -27,3 +27,8 @@ pub returns-clause-later : goal.returns-clause-later
 returns-clause-later c =
     let words : c.as_slice.result.now ≡ words_of c.args.text.now = c.as_slice.ensures ∙ (c.in_ok-words.ensures ∙ ap words_of c.as_bytes.ensures.value) in
     later-file c.args.text.now c.load_words.result (subst (λ (ws : List (List ℕ)). Reads parts_of c.load_words.result (words_read ws)) words c.load_words.ensures)
+
+pub returns-clause-only : goal.returns-clause-only
+returns-clause-only c =
+    let words : c.as_slice.result.now ≡ words_of c.args.text.now = c.as_slice.ensures ∙ (c.in_ok-words.ensures ∙ ap words_of c.as_bytes.ensures.value) in
+    only-file c.args.text.now c.load_words.result c.utf8.text (subst (λ (ws : List (List ℕ)). Reads parts_of c.load_words.result (words_read ws)) words c.load_words.ensures)

@@ -1,6 +1,6 @@
-use Rattle.std.proofs.Common.{inr, ℕ, List, sym, subst, arith}
+use Rattle.std.proofs.Common.{inl, inr, ℕ, List, refl, sym, subst, arith}
 use Rattle.txs_drive.specs.declared.model.Model.{Model}
-use Rattle.txs_drive.specs.File.{IsFile}
+use Rattle.txs_drive.specs.File.{IsFile, StatesOnly}
 use Rattle.txs_top.proofs.Pairs.{not-four, not-five, unlike, above}
 use Rattle.txs_top.proofs.program.run.Goals as goal
 
@@ -18,7 +18,8 @@ returns-clause-headline g c some = record {
   holds = c.in-Ok.ensures.bytes;
   model = c.in-Ok-run_load.model;
   states = subst (λ (b : List ℕ). IsFile b c.in-Ok-run_load.model) c.as_slice.ensures c.in-Ok-run_load.ensures.ok;
-  served = c.run_plain.ensures.served (not-four c.run_plain.result.code some) (not-five c.run_plain.result.code some);
+  only = subst (λ (b : List ℕ). StatesOnly b c.in-Ok-run_load.model) c.as_slice.ensures c.in-Ok-run_load.ensures.only;
+  did = c.run_plain.ensures.served (not-four c.run_plain.result.code some) (not-five c.run_plain.result.code some);
 }
 
 pub returns-clause-read : goal.returns-clause-read
@@ -29,7 +30,8 @@ returns-clause-read g c three = inr (
     holds = c.in-Ok.ensures.bytes;
     model = c.in-Ok-run_load.model;
     states = subst (λ (b : List ℕ). IsFile b c.in-Ok-run_load.model) c.as_slice.ensures c.in-Ok-run_load.ensures.ok;
-    served = c.run_plain.ensures.served (unlike c.run_plain.result.code 3 4 (omega arith) three) (unlike c.run_plain.result.code 3 5 (omega arith) three);
+    only = subst (λ (b : List ℕ). StatesOnly b c.in-Ok-run_load.model) c.as_slice.ensures c.in-Ok-run_load.ensures.only;
+    did = c.run_plain.ensures.served (unlike c.run_plain.result.code 3 4 (omega arith) three) (unlike c.run_plain.result.code 3 5 (omega arith) three);
   },
 )
 
@@ -39,5 +41,37 @@ returns-clause-limit g c six = inr (record {
   holds = c.in-Ok.ensures.bytes;
   model = c.in-Ok-run_load.model;
   states = subst (λ (b : List ℕ). IsFile b c.in-Ok-run_load.model) c.as_slice.ensures c.in-Ok-run_load.ensures.ok;
-  served = c.run_plain.ensures.served (above c.run_plain.result.code 6 4 (omega arith) six) (above c.run_plain.result.code 6 5 (omega arith) six);
+  only = subst (λ (b : List ℕ). StatesOnly b c.in-Ok-run_load.model) c.as_slice.ensures c.in-Ok-run_load.ensures.only;
+  did = c.run_plain.ensures.served (above c.run_plain.result.code 6 4 (omega arith) six) (above c.run_plain.result.code 6 5 (omega arith) six);
 })
+
+pub returns-clause-torn : goal.returns-clause-torn
+returns-clause-torn g c four = inr (record {
+  bytes = c.in-Ok.bytes;
+  holds = c.in-Ok.ensures.bytes;
+  model = c.in-Ok-run_load.model;
+  states = subst (λ (b : List ℕ). IsFile b c.in-Ok-run_load.model) c.as_slice.ensures c.in-Ok-run_load.ensures.ok;
+  only = subst (λ (b : List ℕ). StatesOnly b c.in-Ok-run_load.model) c.as_slice.ensures c.in-Ok-run_load.ensures.only;
+  did = c.run_plain.ensures.cut_by_sink four;
+})
+
+pub returns-clause-memory : goal.returns-clause-memory
+returns-clause-memory g c five = inr (record {
+  bytes = c.in-Ok.bytes;
+  holds = c.in-Ok.ensures.bytes;
+  model = c.in-Ok-run_load.model;
+  states = subst (λ (b : List ℕ). IsFile b c.in-Ok-run_load.model) c.as_slice.ensures c.in-Ok-run_load.ensures.ok;
+  only = subst (λ (b : List ℕ). StatesOnly b c.in-Ok-run_load.model) c.as_slice.ensures c.in-Ok-run_load.ensures.only;
+  did = c.run_plain.ensures.cut_by_memory five;
+})
+
+pub returns-in-Err-Later-clause-torn : goal.returns-in-Err-Later-clause-torn
+returns-in-Err-Later-clause-torn g c four = inl (
+  c.in-Ok.bytes,
+  c.in-Ok.ensures.bytes,
+  λ (m : Model) (f : IsFile c.in-Ok.bytes m).
+      c.in-Err-Later.ensures.later (cc (c.in-Err-Later.field-0-is)) m (subst (λ (b : List ℕ). IsFile b m) (sym c.as_slice.ensures) f),
+  c.close.ensures.torn four,
+  refl,
+  refl,
+)

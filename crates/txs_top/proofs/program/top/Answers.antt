@@ -70,3 +70,23 @@ returns-clause-long_unread g c file bytes words told long =
     let both = pair-is _ (string_bytes {Z = Global}) c.args.words.now c.word-item.result c.file-item.result c.in-len2.len_at_least c.in-len2.len_below c.word-item.is c.file-item.is in
     let same = second-is _ _ _ _ (sym both ∙ words) in
     c.run.ensures.long_unread bytes (subst (λ (q : List ℕ). g.F.Files.contents c.args.files.now q ≡ Some bytes) (sym (c.as_str-2.ensures.value ∙ same)) told) long
+
+pub returns-clause-torn : goal.returns-clause-torn
+returns-clause-torn g c four =
+    let word : string_bytes c.word-item.result ≡ codes "run" = search rules in
+    let both = pair-is _ (string_bytes {Z = Global}) c.args.words.now c.word-item.result c.file-item.result c.in-len2.len_at_least c.in-len2.len_below c.word-item.is c.file-item.is in
+    let is = both ∙ ap (λ (q : List ℕ). q ∷ string_bytes c.file-item.result ∷ []) word ∙ ap (λ (q : List ℕ). codes "run" ∷ q ∷ []) (sym c.as_str-2.ensures.value) in
+    elim (c.run.ensures.torn four) [
+      | inl a ↦ inr (inl (a.0, record { file = c.as_str-2.result.now; run = is; holds = a.1 }, a.2, a.3, a.4, a.5))
+      | inr b ↦ inr (inr (c.as_str-2.result.now, is, b))
+    ]
+
+pub returns-clause-memory : goal.returns-clause-memory
+returns-clause-memory g c five =
+    let word : string_bytes c.word-item.result ≡ codes "run" = search rules in
+    let both = pair-is _ (string_bytes {Z = Global}) c.args.words.now c.word-item.result c.file-item.result c.in-len2.len_at_least c.in-len2.len_below c.word-item.is c.file-item.is in
+    let is = both ∙ ap (λ (q : List ℕ). q ∷ string_bytes c.file-item.result ∷ []) word ∙ ap (λ (q : List ℕ). codes "run" ∷ q ∷ []) (sym c.as_str-2.ensures.value) in
+    elim (c.run.ensures.memory five) [
+      | inl a ↦ inl a
+      | inr b ↦ inr (c.as_str-2.result.now, is, b)
+    ]

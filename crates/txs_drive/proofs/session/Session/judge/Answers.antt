@@ -5,7 +5,7 @@ use Rattle.txs_drive.specs.declared.doing.Doing.TheVariants.{Say, HangUp, Idle}
 use Rattle.txs_drive.specs.declared.note.Note.{Note}
 use Rattle.txs_drive.specs.declared.note.Note.TheVariants.{Ended}
 use Rattle.txs_drive.specs.declared.note.Ending.TheVariants.{Fail}
-use Rattle.txs_drive.specs.Session.{goes_on, over_run, seen_run, seen_note}
+use Rattle.txs_drive.specs.Session.{State, goes_on, over_run, seen_run, seen_note}
 use Rattle.txs_drive.specs.Ready.{state_of, ToldBy, next_number}
 use Rattle.txs_drive.proofs.Sessions.{fails, keeps}
 use Rattle.txs_drive.proofs.session.Session.judge.Goals as goal
@@ -26,4 +26,8 @@ returns-clause-judges c m k =
     = c.in_ok-todo-2.ensures ∙ ap (λ (x : Note). Say x ∷ Idle ∷ []) noted in
     keeps m c.args.seen c.args.self.now.run (state_of c.args.self.now) _ (length c.in_ok-set.set) c.requires.observed c.requires.going (c.in_ok-set.ensures.allowed m k)
     (grind (arith, common_steps))
-    (subst (λ (ds : List Doing). ToldBy (state_of c.args.self.now).run (λ q. goes_on (seen_run c.args.seen q) ds (state_of c.args.self.now)) (state_of c.see.new.self)) items c.in_ok-see.ensures.seen)
+    (subst (λ (s : State). ToldBy s.run (λ q. goes_on (seen_run c.args.seen q) (Say (seen_note (next_number (state_of c.args.self.now).run) c.args.seen) ∷ Idle ∷ []) s) (state_of c.see.new.self)) c.make_room.ensures.same
+    (subst (λ (ds : List Doing). ToldBy (state_of c.make_room.new.self).run (λ q. goes_on (seen_run c.args.seen q) ds (state_of c.make_room.new.self)) (state_of c.see.new.self)) items c.see.ensures.seen))
+
+pub returns-clause-kept : goal.returns-clause-kept
+returns-clause-kept c m k = c.see.ensures.kept m (c.make_room.ensures.moved m c.args.seen _ (c.in_ok-set.ensures.after m k))
