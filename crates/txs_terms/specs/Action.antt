@@ -103,6 +103,16 @@ types_on (ts ∷ scope) (suc c) = types_on scope c
 abbrev pub arity : Scope → ℕ → ℕ
 arity scope c = length (types_on scope c)
 
+-- the types of all positions of these channels, in order
+abbrev pub types_over : Scope → Channels → List Ty
+types_over scope [] = []
+types_over scope (c ∷ cs) = types_on scope c ++ types_over scope cs
+
+-- n numbers from the first
+abbrev pub from : ℕ → ℕ → List ℕ
+from i zero = []
+from i (suc n) = i ∷ from (suc i) n
+
 -- the values on each channel have its types
 abbrev pub IsTyped : Table → Scope → Action → Type 0
 IsTyped table scope [] = Unit {0}

@@ -1,9 +1,13 @@
 pub mod Expr
 pub mod Eval
+pub mod Under
 pub mod Action
 pub mod Term
 pub mod Rules
 pub mod After
+pub mod Typed
+pub mod Menu
+pub mod Close
 pub mod Sets
 pub mod View
 pub mod Moves

@@ -121,7 +121,7 @@ move_term k formals (silent gs es q) = step gs (machine k formals es q)
 
 abbrev pub positions_nodes : List Position → ℕ
 positions_nodes [] = 0
-positions_nodes (give e ∷ ps) = 1 + expr_nodes e + positions_nodes ps
+positions_nodes (give e ∷ ps) = expr_nodes e + positions_nodes ps
 positions_nodes (take x ∷ ps) = 1 + positions_nodes ps
 
 abbrev pub offers_nodes : List Offer → ℕ

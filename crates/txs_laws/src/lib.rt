@@ -1,0 +1,2 @@
+//! Laws over the definitions: each is the contract of a public function that does nothing.
+#![tactic(auto)]

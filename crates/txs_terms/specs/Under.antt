@@ -1,0 +1,56 @@
+-- Evaluation under values: a variable stands for its value in an environment, and nothing is put into the expression.
+use Rattle.std.specs.Prelude.{ℕ, zero, suc, false, true, cond, ltb, List, [], ◌∷◌, ◌++◌, Option, Some, None, slice_get}
+use Rattle.txs_values.specs.Value.{Value, bool, cons, packed, same_value}
+use Rattle.txs_terms.specs.Expr.{Expr, val, slot, local, constant, one, two, equal, both, either, choose, apply, build, let_in, Exprs, none, more}
+use Rattle.txs_terms.specs.Eval.{Defs, Run, got, bad, Runs, gots, wrong, high, long, node_limit, after, then_run, then_runs, cons_run, if_true, body_run, unary, binary, sized}
+
+-- the values of the variables around an expression, and of the LETs around it in it, the outermost first
+pub record Environment : Type 0 where
+  pub slots : List Value
+  pub locals : List Value
+
+abbrev pub Under : Type 0
+Under = Environment → Expr → ℕ → Run
+
+-- the value of a variable
+abbrev pub looked_up : Option Value → ℕ → Run
+looked_up None n = bad wrong
+looked_up (Some v) n = got v n
+
+-- each in order
+abbrev pub each_under : (Expr → ℕ → Run) → List Expr → ℕ → Runs
+each_under ev [] n = gots [] n
+each_under ev (e ∷ es) n = cons_run (ev e n) (each_under ev es)
+
+abbrev pub operands : Exprs → List Expr
+operands none = []
+operands (more e es) = e ∷ operands es
+
+abbrev pub with_variable : Environment → Value → Environment
+with_variable env v = record { slots = env.slots; locals = env.locals ++ v ∷ [] }
+
+-- a body sees its parameters alone
+abbrev pub parameters : List Value → Environment
+parameters vs = record { slots = vs; locals = [] }
+
+-- one node, which is entered; `ev` evaluates one level below it
+abbrev pub node_under : Defs → Under → Environment → Expr → ℕ → Run
+node_under defs ev env (val v) n = got v n
+node_under defs ev env (slot i) n = looked_up (slice_get env.slots i) n
+node_under defs ev env (local i) n = looked_up (slice_get env.locals i) n
+node_under defs ev env (constant k) n = body_run (slice_get defs.constants k) (λ e. ev (parameters []) e n)
+node_under defs ev env (one o a) n = then_run (ev env a n) (λ x. after (unary defs.table o x))
+node_under defs ev env (two o a b) n = then_run (ev env a n) (λ x m. then_run (ev env b m) (λ y. after (binary o x y)))
+node_under defs ev env (equal a b) n = then_run (ev env a n) (λ x m. then_run (ev env b m) (λ y. got (bool (same_value x y))))
+node_under defs ev env (both a b) n = then_run (ev env a n) (λ x m. if_true x (ev env b m) (got (bool false) m))
+node_under defs ev env (either a b) n = then_run (ev env a n) (λ x m. if_true x (got (bool true) m) (ev env b m))
+node_under defs ev env (choose c a b) n = then_run (ev env c n) (λ x m. if_true x (ev env a m) (ev env b m))
+node_under defs ev env (apply f es) n =
+    then_runs (each_under (ev env) (operands es) n) (λ vs m. body_run (slice_get defs.functions f) (λ e. ev (parameters vs) e m))
+node_under defs ev env (build c es) n = then_runs (each_under (ev env) (operands es) n) (λ vs. after (sized (cons c (packed vs))))
+node_under defs ev env (let_in x a b) n = then_run (ev env a n) (λ v. ev (with_variable env v) b)
+
+-- the value of an expression under these values, where `left` more levels may be entered and `n` nodes were
+abbrev pub run_under : Defs → ℕ → Under
+run_under defs zero env e n = bad high
+run_under defs (suc left) env e n = cond (ltb n node_limit) (node_under defs (run_under defs left) env e (suc n)) (bad long)
