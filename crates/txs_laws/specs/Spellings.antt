@@ -1,0 +1,20 @@
+-- What reading a text means.
+use Rattle.std.specs.Prelude.{◌≡◌, ◌↔◌, ℕ, List, Some}
+use Rattle.txs_values.specs.Value.{Ty, Value, Table, HasType}
+use Rattle.txs_values.specs.Text.{text_of}
+use Rattle.txs_values.specs.Spelling.{read_text}
+use Rattle.txs_values.specs.Spelled.{IsSpelling, IsNamed, IsAllowed}
+
+-- a text is read as the value that it spells, where that is of its type, in range, and neither too large nor too high; and as nothing else
+abbrev pub ReadIsSpelled : Type 0
+ReadIsSpelled =
+    (table : Table) (t : Ty) (bs : List ℕ) (v : Value) → IsNamed table
+    → (read_text table t bs ≡ Some v) ↔ (IsSpelling table t v bs × IsAllowed table t v)
+
+-- the canonical text of a value is one of its spellings
+abbrev pub TextIsSpelling : Type 0
+TextIsSpelling = (table : Table) (t : Ty) (v : Value) → HasType table v t → IsSpelling table t v (text_of table v)
+
+-- so what is written is read as what it was
+abbrev pub WrittenIsRead : Type 0
+WrittenIsRead = (table : Table) (t : Ty) (v : Value) → IsNamed table → IsAllowed table t v → read_text table t (text_of table v) ≡ Some v
