@@ -1,1 +1,3 @@
 pub mod typing
+pub mod solver_base
+pub mod solver

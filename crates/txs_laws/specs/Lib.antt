@@ -5,3 +5,4 @@ pub mod Filling
 pub mod Channels
 pub mod Paths
 pub mod Answers
+pub mod Cells
