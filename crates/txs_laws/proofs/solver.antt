@@ -6,3 +6,7 @@ pub mod Squash
 pub mod Members
 pub mod Runs
 pub mod Mentions
+pub mod Atoms
+pub mod Order
+pub mod Bounds
+pub mod Right
