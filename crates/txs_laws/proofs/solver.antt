@@ -10,3 +10,4 @@ pub mod Atoms
 pub mod Order
 pub mod Bounds
 pub mod Right
+pub mod Constants
