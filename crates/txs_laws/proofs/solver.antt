@@ -11,3 +11,4 @@ pub mod Order
 pub mod Bounds
 pub mod Right
 pub mod Constants
+pub mod Typed
