@@ -12,3 +12,5 @@ pub mod Bounds
 pub mod Right
 pub mod Constants
 pub mod Typed
+pub mod Ranged
+pub mod Decided

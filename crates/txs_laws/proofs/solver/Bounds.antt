@@ -53,7 +53,7 @@ lowest_ge x z (y ∷ ys) h k = lowest_step x y z ys (int_lt y x) h (k y (inl ref
 abbrev Within' : List Value → List Value → Type 0
 Within' xs ys = (x : Value) → In x xs → In x ys
 
-some_list_same : {A : Type 0} {x y : A} → Some x ≡ Some y → x ≡ y
+pub some_list_same : {A : Type 0} {x y : A} → Some x ≡ Some y → x ≡ y
 some_list_same e = cc
 
 between_In : (ls hs : List ℤ) (z : ℤ) (vs : List Value) → between ls hs ≡ Some vs → ((y : ℤ) → In y ls → y ≤ℤ z) → ((y : ℤ) → In y hs → z ≤ℤ y) → In (num z) vs
@@ -137,14 +137,14 @@ with_In None go b h = absurd h
 with_In (Some k) go b h = (k, refl, h)
 
 -- a bound of a slot against an expression
-record LeftBound (q : Query) (a c : Expr) (go : ℕ → ℤ → List Bound) (b : Bound) : Type 0 where
+pub record LeftBound (q : Query) (a c : Expr) (go : ℕ → ℤ → List Bound) (b : Bound) : Type 0 where
   pub of_slot : ℕ
   pub number : ℤ
   pub slot_is : a ≡ slot of_slot
   pub fixed : fixed_value q c ≡ Some (num number)
   pub among : In b (go of_slot number)
 
-left_bound : (q : Query) (a c : Expr) (go : ℕ → ℤ → List Bound) (b : Bound) → In b (left_bounds q a c go) → LeftBound q a c go b
+pub left_bound : (q : Query) (a c : Expr) (go : ℕ → ℤ → List Bound) (b : Bound) → In b (left_bounds q a c go) → LeftBound q a c go b
 left_bound q (slot i) c go b h =
     let w = with_In (number_in (fixed_value q c)) (go i) b h in
     record { of_slot = i; number = w.0; slot_is = refl; fixed = number_some (fixed_value q c) w.0 w.1; among = w.2 }
@@ -310,7 +310,7 @@ all_keep q p (e ∷ es) b g h =
 
 -- ---- the cells of the second case
 
-record Bounded (i : ℕ) (is_low : Bool) (y : ℤ) (bs : List Bound) : Type 0 where
+pub record Bounded (i : ℕ) (is_low : Bool) (y : ℤ) (bs : List Bound) : Type 0 where
   pub bound : Bound
   pub among : In bound bs
   pub slot_is : bound.of_slot ≡ i
@@ -332,7 +332,7 @@ bounded_step i l y b bs true e (inr h) go =
 bounded_step i l y b bs false e h go =
     let g = go h in record { bound = g.bound; among = inr g.among; slot_is = g.slot_is; low_is = g.low_is; value_is = g.value_is }
 
-bounded : (i : ℕ) (l : Bool) (y : ℤ) (bs : List Bound) → In y (bounds_for i l bs) → Bounded i l y bs
+pub bounded : (i : ℕ) (l : Bool) (y : ℤ) (bs : List Bound) → In y (bounds_for i l bs) → Bounded i l y bs
 bounded i l y [] h = absurd h
 bounded i l y (b ∷ bs) h = bounded_step i l y b bs _ refl h (bounded i l y bs)
 
@@ -416,7 +416,7 @@ value_In table bs p i (named n) (bool b) vs k e h r = cc
 value_In table bs p i (named n) (text b) vs k e h r = cc
 value_In table bs p i (named n) (cons c us) vs k e h r = made_In table n c us vs r h
 
-both_some : (o : Option (List Value)) (o' : Option (List (List Value))) (ws : List (List Value))
+pub both_some : (o : Option (List Value)) (o' : Option (List (List Value))) (ws : List (List Value))
     → elim o [ None ↦ None | Some vs ↦ elim o' [ None ↦ None | Some vss ↦ Some (vs ∷ vss) ] ] ≡ Some ws
     → (vs : List Value) × (vss : List (List Value)) × (o ≡ Some vs) × (o' ≡ Some vss) × (vs ∷ vss ≡ ws)
 both_some None o' ws e = cc

@@ -76,10 +76,10 @@ module _ (table : Table) (signatures : Signatures) where
   -- ---- atoms and their sides
 
   module _ (slots : List Ty) where
-    abbrev IsTruth : Expr → Type 0
+    abbrev pub IsTruth : Expr → Type 0
     IsTruth e = Of table signatures slots [] e truth
 
-    abbrev IsTyped : Expr → Type 0
+    abbrev pub IsTyped : Expr → Type 0
     IsTyped e = (t : Ty) × Of table signatures slots [] e t
 
     two_lists : (e : Expr) (xs ys : List Expr) → In e (xs ++ ys) → (In e xs → IsTruth e) → (In e ys → IsTruth e) → IsTruth e
@@ -127,10 +127,10 @@ module _ (table : Table) (signatures : Signatures) where
     pair_typed s a b h k (inl q) = subst IsTyped (sym q) h
     pair_typed s a b h k (inr i) = here s b k i
 
-    equal_typed : {a b : Expr} → IsTruth (equal a b) → IsTyped a × IsTyped b
+    pub equal_typed : {a b : Expr} → IsTruth (equal a b) → IsTyped a × IsTyped b
     equal_typed (equal_of {s = s} a b) = ((s, a), (s, b))
 
-    two_typed : {o : _} {a b : Expr} → IsTruth (two o a b) → IsTyped a × IsTyped b
+    pub two_typed : {o : _} {a b : Expr} → IsTruth (two o a b) → IsTyped a × IsTyped b
     two_typed (two_of {r = r} {s = s} o a b) = ((r, a), (s, b))
 
     one_typed : {o : _} {a : Expr} → IsTruth (one o a) → IsTyped a

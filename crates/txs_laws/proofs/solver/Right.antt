@@ -64,7 +64,7 @@ taken_In (suc n) (y ∷ xs) x (inr h) = inr (taken_In n xs x h)
 
 -- ---- Sat
 
-sat_from : (ts ps : List (List Value)) (p : List Value) → answer_from ts ≡ sat ps → In p ps → In p ts
+pub sat_from : (ts ps : List (List Value)) (p : List Value) → answer_from ts ≡ sat ps → In p ps → In p ts
 sat_from [] ps p e h = cc
 sat_from (t ∷ ts) ps p e h =
     let q : take point_limit (t ∷ ts) ≡ ps = (let x = e in cc) in
@@ -108,7 +108,7 @@ conjuncts_alike defs c p (e ∷ es) a h =
     let x = atoms_decide defs c p e (alike_front defs c p (atoms_of e) (atoms_of_all es) a) height_limit 0 in
     ((h.0.0, x ∙ h.0.1), conjuncts_alike defs c p es (alike_back defs c p (atoms_of e) (atoms_of_all es) a) h.1)
 
-order_case_is : (q : Query) (vss : List (List Value)) (b : Bool) → all_order q (atoms_of_all q.conjuncts) ≡ b
+pub order_case_is : (q : Query) (vss : List (List Value)) (b : Bool) → all_order q (atoms_of_all q.conjuncts) ≡ b
     → cond b (Some (order_candidates q)) None ≡ Some vss → (all_order q (atoms_of_all q.conjuncts) ≡ true) × (order_candidates q ≡ vss)
 order_case_is q vss true t e = (t, (let x = e in cc))
 order_case_is q vss false t e = cc

@@ -42,10 +42,10 @@ sorted_fits z (y ∷ ys) h = sorted_case y z ys (fits y) refl h (sorted_fits z y
 
 -- ---- cells
 
-abbrev Split : List Value → List Value → List (List Value) → Type 0
+abbrev pub Split : List Value → List Value → List (List Value) → Type 0
 Split us vs ps = (u : Value) × (rest : List Value) × (us ≡ u ∷ rest) × In u vs × In rest ps
 
-In-with_each : (us vs : List Value) (ps : List (List Value)) → In us (with_each vs ps) → Split us vs ps
+pub In-with_each : (us vs : List Value) (ps : List (List Value)) → In us (with_each vs ps) → Split us vs ps
 In-with_each us [] ps h = absurd h
 In-with_each us (v ∷ vs) ps h =
     elim (In-append us (map (λ p. v ∷ p) ps) (with_each vs ps) h) [
@@ -55,7 +55,7 @@ In-with_each us (v ∷ vs) ps h =
 
 -- ---- candidates are of the type
 
-types_of : (o : Option Place) (k : ℕ) (fs : List Field) → fields_of o k ≡ Some fs → fields_in o k ≡ Some (field_types fs)
+pub types_of : (o : Option Place) (k : ℕ) (fs : List Field) → fields_of o k ≡ Some fs → fields_in o k ≡ Some (field_types fs)
 types_of None k fs e = cc
 types_of (Some p) k fs e = go (eqb p.ty k) e
   where
