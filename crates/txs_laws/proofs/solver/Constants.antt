@@ -4,12 +4,12 @@ use Rattle.std.specs.Prelude.{Option, Some, None}
 use Rattle.std.proofs.lemmas.Bool.{and_parts, or_parts}
 use Rattle.txs_values.specs.Value.{Ty, whole, truth, string, named, Value, num, bool, text, cons, Values, no_value, and_value, Table, fields_in, place_of, HasType, has_type, has_fields, fits}
 use Rattle.txs_terms.specs.Expr.{negate, negation, to_text, from_text, len, is_made_by, select, Expr, val, slot, local, constant, one, two, equal, both, either, choose, apply, build, let_in, Exprs, has_slot, any_has_slot}
-use Rattle.txs_terms.specs.Eval.{Defs, Run, got, bad, eval, height_limit}
+use Rattle.txs_terms.specs.Eval.{Run, got, bad, eval, height_limit}
 use Rattle.txs_terms.specs.Rules.{In}
-use Rattle.txs_terms.specs.Typed.{Signatures, Of, Ofs, val_of, slot_of, local_of, constant_of, one_of, two_of, equal_of, both_of, either_of, choose_of, apply_of, build_of, let_of, none_of, more_of', UnaryOf, negation_of, AreTyped, AreGuards}
+use Rattle.txs_terms.specs.Typed.{Signatures, Of, Ofs, val_of, slot_of, local_of, constant_of, one_of, two_of, equal_of, both_of, either_of, choose_of, apply_of, build_of, let_of, none_of, more_of', negation_of, AreTyped, AreGuards}
 use Rattle.txs_guard.specs.Query.{Query}
 use Rattle.txs_guard.specs.Atom.{atoms_of, atoms_of_all, fixed_value, value_in}
-use Rattle.txs_guard.specs.Mentioned.{flat, some_list, sides_of, constants_of, constants, numbers, numbers_in, numbers_in_each}
+use Rattle.txs_guard.specs.Mentioned.{some_list, sides_of, constants_of, constants, numbers_in, numbers_in_each}
 use Rattle.txs_guard.specs.Point.{IsTypedQuery}
 use Rattle.txs_laws.proofs.typing.Facts.{Facts}
 use Rattle.txs_laws.proofs.solver_base.Lists.{In-append}

@@ -1,11 +1,11 @@
 -- What typing gives to answers: points have cells, Sat answers are points, and Unsat answers are right.
-use Rattle.std.proofs.Common.{◌≡◌, ℕ, Bool, true, false, cond, leb, inl, inr, List, [], ◌∷◌, refl, sym, subst}
+use Rattle.std.proofs.Common.{◌≡◌, Bool, true, false, cond, leb, inl, inr, List, [], ◌∷◌, refl, sym, subst}
 use Rattle.std.specs.Prelude.{Option, Some, None}
 use Rattle.txs_values.specs.Value.{Value}
 use Rattle.txs_terms.specs.Rules.{In}
 use Rattle.txs_guard.specs.Query.{Query}
 use Rattle.txs_guard.specs.Atom.{atoms_of_all, all_order}
-use Rattle.txs_guard.specs.Candidates.{cells, order_case, order_candidates}
+use Rattle.txs_guard.specs.Candidates.{cells, order_case}
 use Rattle.txs_guard.specs.Bounds.{bounded_case}
 use Rattle.txs_guard.specs.Answer.{sat, is_true_at, true_cells, answer_from, by_cases, cell_count, cell_limit}
 use Rattle.txs_guard.specs.Point.{IsPoint, IsTypedQuery}

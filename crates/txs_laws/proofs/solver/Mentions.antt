@@ -2,7 +2,7 @@
 use Rattle.std.proofs.Common.{◌≡◌, ℕ, zero, suc, ◌+◌, ◌<◌, ◌≤◌, max, Bool, true, false, ◌&&◌, cond, eqb, ◌⊎◌, inl, inr, List, [], ◌∷◌, ◌++◌, length, map, refl, sym, ap, ◌∙◌, subst, arith}
 use Rattle.std.specs.Prelude.{Option, Some, None, slice_get}
 use Rattle.std.proofs.lemmas.Bool.{and_parts, or_cases, eqb-true, eq-eqb, both_ways}
-use Rattle.txs_values.specs.Value.{fields_in, field_types, Ty, whole, truth, string, named, Value, num, bool, text, cons, Values, no_value, and_value, listed, Table, Field, Place, place_of, has_type, has_fields, HaveTypes}
+use Rattle.txs_values.specs.Value.{field_types, Ty, whole, truth, string, named, Value, num, bool, text, cons, Values, no_value, and_value, listed, Table, Field, Place, place_of, has_type, has_fields, HaveTypes}
 use Rattle.txs_terms.specs.Expr.{Expr}
 use Rattle.txs_terms.specs.Rules.{In}
 use Rattle.txs_guard.specs.Atom.{atoms_of_all}

@@ -1,11 +1,11 @@
 -- The cells of the second case are points.
-use Rattle.std.proofs.Common.{◌≡◌, ℕ, zero, suc, ℤ, pos, negsuc, ◌+ℤ◌, ◌-ℤ◌, ◌≤ℤ◌, ◌<ℤ◌, int_lt, Bool, true, false, cond, eqb, inl, inr, List, [], ◌∷◌, ◌++◌, map, refl, sym, ap, ◌∙◌, subst, arith}
+use Rattle.std.proofs.Common.{◌≡◌, ℕ, zero, suc, ℤ, pos, negsuc, ◌+ℤ◌, ◌-ℤ◌, ◌≤ℤ◌, ◌<ℤ◌, int_lt, Bool, true, false, cond, inl, inr, List, [], ◌∷◌, ◌++◌, map, refl, sym, ap, ◌∙◌, subst, arith}
 use Rattle.std.specs.Prelude.{Option, Some, None}
 use Rattle.std.proofs.lemmas.Int.{ints}
-use Rattle.txs_values.specs.Value.{Ty, whole, truth, string, named, Value, num, bool, cons, no_value, Table, Field, place_of, field_types, fields_in, has_type, has_fields, HaveTypes, fits}
+use Rattle.txs_values.specs.Value.{Ty, whole, truth, string, named, Value, num, bool, cons, no_value, Table, Field, place_of, has_type, has_fields, HaveTypes, fits}
 use Rattle.txs_terms.specs.Expr.{Binary, plus, minus, times, divide, remainder, concat, differ, less_than, at_most, more_than, at_least, char_at, Expr, val, slot, local, constant, one, two, equal, both, either, choose, apply, build, let_in}
 use Rattle.txs_terms.specs.Rules.{In}
-use Rattle.txs_terms.specs.Typed.{Signatures, Of, AreTyped, AreGuards}
+use Rattle.txs_terms.specs.Typed.{Signatures, AreTyped, AreGuards}
 use Rattle.txs_guard.specs.Query.{Query}
 use Rattle.txs_guard.specs.Bounds.{Bound, low, high, sign_bounds, turned, left_bounds, bounds_of, bounds_for, greatest, lowest, count_up, up_by, from_to, between, plain_made, every_value, every_slot, bounded_case}
 use Rattle.txs_guard.specs.Candidates.{cells, up_to, count_made, fields_of}

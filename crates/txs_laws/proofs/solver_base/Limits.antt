@@ -3,7 +3,7 @@ use Rattle.std.proofs.Common.{◌≡◌, ℕ, zero, suc, ◌≤◌, Bool, true, 
 use Rattle.std.specs.Prelude.{slice_get}
 use Rattle.std.proofs.lemmas.Bool.{ltb-true, lt-ltb}
 use Rattle.txs_values.specs.Value.{Value, num, bool, text, cons, packed, same_value}
-use Rattle.txs_terms.specs.Eval.{Defs, Run, got, bad, long, Runs, gots, bads, Eval, then_run, then_runs, cons_run, with_first, each, Outcome, fine, broken, after, unary, binary, sized, if_true, body_run, node, run, height_limit, node_limit, Gives, bool_true}
+use Rattle.txs_terms.specs.Eval.{Defs, Run, got, bad, long, Runs, gots, bads, Eval, then_run, then_runs, cons_run, with_first, each, Outcome, fine, broken, after, unary, binary, sized, if_true, body_run, node, run, node_limit}
 use Rattle.txs_terms.specs.Expr.{Expr, val, slot, local, constant, one, two, equal, both, either, choose, apply, build, let_in, with_local, Exprs, none, more, put, filled}
 
 -- what the one gives, the other gives after no more nodes

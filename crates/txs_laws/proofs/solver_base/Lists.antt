@@ -1,6 +1,5 @@
 -- Members of lists, and walks that ended well.
-use Rattle.std.proofs.Common.{◌≡◌, ℕ, Bool, true, false, cond, ◌⊎◌, inl, inr, List, [], ◌∷◌, ◌++◌, map, refl, sym, ap, subst}
-use Rattle.txs_terms.specs.Menu.{Item, Walk, walked, wide, then_walk, capped, too_many, gather, Verdict, holds, fails, faults, where_holds}
+use Rattle.std.proofs.Common.{◌≡◌, ◌⊎◌, inl, inr, List, [], ◌∷◌, ◌++◌, map, refl, ap}
 use Rattle.txs_terms.specs.Rules.{In}
 
 pub In_front : {A : Type 0} (x : A) (xs ys : List A) → In x xs → In x (xs ++ ys)

@@ -1,17 +1,13 @@
 -- Conjuncts and values: what an evaluation that was made says.
-use Rattle.std.specs.Prelude.{Option, Some, None}
-use Rattle.std.proofs.Common.{subst}
-use Rattle.std.proofs.Common.{◌≡◌, ℕ, zero, suc, ◌<◌, Bool, true, false, cond, eqb, ltb, ◌||◌, List, [], ◌∷◌, ◌++◌, refl, sym, ap, ◌∙◌, arith, lit<}
+use Rattle.std.proofs.Common.{◌≡◌, ℕ, Bool, true, false, eqb, ◌||◌, List, [], ◌∷◌, refl, ap}
 use mathlib.Core.Bool.{beq}
-use Rattle.std.proofs.lemmas.Bool.{or_parts, and_parts, and_from, eqb-true, eq-eqb, lt-ltb}
+use Rattle.std.proofs.lemmas.Bool.{or_parts, and_parts, and_from, eqb-true, eq-eqb}
 use Rattle.std.proofs.lemmas.Bool.Decides.{Decides-int_eq}
 use Rattle.std.specs.Cmp.Lexicographic.{bytes_decides}
 use Rattle.txs_values.specs.Value.{Value, num, bool, text, cons, Values, no_value, and_value, same_value, same_each}
-use Rattle.txs_values.specs.View.{value_of}
-use Rattle.txs_terms.specs.Eval.{Defs, Run, got, bad, long, eval, run, node, height_limit, node_limit, Gives, Hold, then_run}
-use Rattle.txs_terms.specs.Expr.{Expr, val, slot, local, constant, one, two, equal, both, either, choose, apply, build, let_in, Exprs, none, more, Puts, put, put_each, put_all, has_slot, any_has_slot}
-use Rattle.txs_terms.specs.Menu.{Verdict, holds, judge, and_then, with_slots, without_slots, where_some, with_value, all_values, Walk, walked, Item}
-use Rattle.txs_terms.specs.Rules.{AllGive}
+use Rattle.txs_terms.specs.Eval.{Defs, Run, got, bad, eval, Hold}
+use Rattle.txs_terms.specs.Expr.{Expr, val, slot, local, constant, one, two, equal, both, either, choose, apply, build, let_in, Exprs, none, more, Puts, put, put_each, has_slot, any_has_slot}
+use Rattle.txs_terms.specs.Menu.{Verdict, holds, judge, and_then}
 
 -- ---- one value
 
