@@ -77,7 +77,6 @@ fixed_by l ks xs x m h (down n e) = let q = m x h in absurd (omega (arith, ints)
 pub pressed_fixed : (l : ℤ) (ks xs : List ℤ) (x : ℤ) → IsLeast l ks → In x ks → pressed l ks xs x ≡ x
 pressed_fixed l ks xs x m h = fixed_by l ks xs x m h (side_of l x)
 
--- each comparison is as before
 tri : (x y : ℤ) (a b : Bool) → int_lt x y ≡ a → int_lt y x ≡ b → (x <ℤ y) ⊎ ((x ≡ y) ⊎ (y <ℤ x))
 tri x y true b ea eb = inl (grind (arith, ints))
 tri x y false true ea eb = inr (inr (grind (arith, ints)))
@@ -125,6 +124,7 @@ pressed_order l ks xs x y m hx hy =
 
 -- ---- candidates
 
+-- a number between two is no farther from 0 than one of them
 below_limit : (l x p : ℤ) → l ≤ℤ p → p ≤ℤ x → (mag p ≤ mag x) ⊎ (mag p ≤ mag l)
 below_limit (pos i) (pos j) (pos n) a b = inl (omega (arith, ints))
 below_limit (negsuc i) (pos j) (pos n) a b = inl (omega (arith, ints))

@@ -1,4 +1,4 @@
--- Answers are right.
+-- A point of a Sat answer makes the query True; after Unsat none does, where the constants are in range.
 use Rattle.std.proofs.Common.{◌≡◌, ℕ, zero, suc, Bool, true, false, cond, leb, inl, inr, List, [], ◌∷◌, take, refl, sym, ap, ◌∙◌, subst}
 use Rattle.std.specs.Prelude.{Option, Some, None}
 use Rattle.std.proofs.lemmas.Bool.{both_ways}

@@ -1,4 +1,4 @@
--- Members of lists, and walks that ended well.
+-- Members of lists.
 use Rattle.std.proofs.Common.{◌≡◌, ◌⊎◌, inl, inr, List, [], ◌∷◌, ◌++◌, map, refl, ap}
 use Rattle.txs_terms.specs.Rules.{In}
 
