@@ -1,2 +1,4 @@
 pub mod typing
+pub mod solver_base
+pub mod solver
 pub mod examples

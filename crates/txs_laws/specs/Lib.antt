@@ -6,3 +6,4 @@ pub mod Channels
 pub mod Paths
 pub mod Answers
 pub mod Spellings
+pub mod Cells

@@ -1,0 +1,16 @@
+pub mod Congruence
+pub mod Climb
+pub mod Press
+pub mod Texts
+pub mod Squash
+pub mod Members
+pub mod Runs
+pub mod Mentions
+pub mod Atoms
+pub mod Order
+pub mod Bounds
+pub mod Right
+pub mod Constants
+pub mod Typed
+pub mod Ranged
+pub mod Decided
