@@ -4,9 +4,9 @@ use Rattle.std.proofs.lemmas.Bool.Decides.{Decides-int_eq}
 use Rattle.txs_values.specs.Value.{Value, num}
 use Rattle.txs_terms.specs.Expr.{Expr, val, filled}
 use Rattle.txs_terms.specs.Eval.{Defs, height_limit, node_limit, eval, Gives, got}
-use Rattle.txs_terms.specs.Action.{Action, Label, act, inner, ends, channels, values_over, Scope}
+use Rattle.txs_terms.specs.Action.{Action, Label, act, inner, ends, channels, values_over, Scope, in_order}
 use Rattle.txs_terms.specs.Term.{Offer, Term, stop, prefix, choice, put_offer, fill}
-use Rattle.txs_terms.specs.Rules.{Model, MeetAll, offered, in_order, Step, offers, choose_left, choose_right}
+use Rattle.txs_terms.specs.Rules.{Model, MeetAll, offered, Step, offers, choose_left, choose_right}
 use Rattle.txs_terms.specs.After.{Inners, here, onward}
 use Rattle.txs_terms.specs.Sets.{IsPlain}
 use Rattle.txs_terms.specs.Moves.{is_number}

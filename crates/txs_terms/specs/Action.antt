@@ -64,6 +64,10 @@ abbrev pub union : Channels → Channels → Channels
 union [] ys = ys
 union (x ∷ xs) ys = with_channel x (union xs ys)
 
+-- each once, ascending
+abbrev pub in_order : Channels → Channels
+in_order cs = union cs []
+
 -- each of them is above x
 abbrev pub AllAbove : ℕ → Channels → Type 0
 AllAbove x [] = Unit {0}

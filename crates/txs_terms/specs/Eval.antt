@@ -68,7 +68,7 @@ text_to table (named k) bs = spelled (read_text table (named k) bs)
 abbrev pub unary : Table → Unary → Value → Outcome
 unary table negate (num x) = in_range (neg_ℤ x)
 unary table negation (bool b) = fine (bool (not b))
-unary table to_text (text bs) = fine (text bs)
+unary table to_text (text bs) = sized (text bs)
 unary table to_text (num x) = sized (text (text_of table (num x)))
 unary table to_text (bool b) = sized (text (text_of table (bool b)))
 unary table to_text (cons c vs) = sized (text (text_of table (cons c vs)))

@@ -3,9 +3,9 @@ use Rattle.std.specs.Prelude.{ℕ, zero, suc, ◌+◌, ◌-◌, Bool, true, fals
 use Rattle.txs_values.specs.Value.{Value, num, bool, text, cons, same_value, size}
 use Rattle.txs_terms.specs.Expr.{Expr, val, slot, local, constant, one, two, equal, both, either, choose, apply, build, let_in, Puts, put, put_all, filled, moved, has_slot, exprs_nodes}
 use Rattle.txs_terms.specs.Eval.{Defs, Run, got, bad, eval}
-use Rattle.txs_terms.specs.Action.{Channels, has, kept, none_in, joins, union, Scope, arity, from}
+use Rattle.txs_terms.specs.Action.{Channels, has, kept, none_in, joins, union, in_order, Scope, arity, from}
 use Rattle.txs_terms.specs.Term.{Name, Position, give, take, Offer, Term, stop, exits, prefix, step, guard, choice, par, enable, disable, interrupt, hide, call, bind, machine, hit, miss, put_term, fill, instance, term_nodes, channels_bound, Move, Automaton, move_term}
-use Rattle.txs_terms.specs.Rules.{Model, offered, in_order, visible}
+use Rattle.txs_terms.specs.Rules.{Model, offered, visible}
 
 -- what an item does: an action on these channels, an internal step, or an exit
 pub data Kind : Type 0 where

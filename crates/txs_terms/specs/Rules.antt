@@ -3,10 +3,10 @@ use Rattle.std.specs.Prelude.{◌≡◌, ◌⊎◌, ℕ, true, false, ltb, List,
 use Rattle.txs_values.specs.Value.{Value}
 use Rattle.txs_terms.specs.Expr.{Expr, put, put_all, filled}
 use Rattle.txs_terms.specs.Eval.{Defs, Gives, Hold}
-use Rattle.txs_terms.specs.Action.{Action, Label, act, inner, ends, Channels, channels, values_on, values_over, part_of, none_in, kept, union, is_empty, joins, Scope, IsAction}
+use Rattle.txs_terms.specs.Action.{Action, Label, act, inner, ends, Channels, channels, values_on, values_over, part_of, none_in, kept, union, in_order, is_empty, joins, Scope, IsAction}
 use Rattle.txs_terms.specs.Term.{Name, Position, give, take, Offer, Term, stop, exits, prefix, step, guard, choice, par, enable, disable, interrupt, hide, call, bind, machine, hit, miss, fill, instance, Move, Automaton, move_term}
 
--- the functions, the bodies of the processes, and the automata
+-- the functions, the bodies of what may be called, and the automata. The body of an automaton is the automaton at its first state.
 pub record Model : Type 0 where
   pub defs : Defs
   pub bodies : List Term
@@ -53,10 +53,6 @@ MeetAll defs (o ∷ os) a = Meets defs o.positions (values_on a o.channel) × Me
 
 abbrev pub offered : List Offer → Channels
 offered os = map (λ o. o.channel) os
-
--- ascending
-abbrev pub in_order : Channels → Channels
-in_order cs = union cs []
 
 -- the channels below the depth
 abbrev pub visible : ℕ → Channels → Channels

@@ -2,7 +2,7 @@
 use Rattle.std.specs.Prelude.{ℕ, zero, suc, ◌+◌, max, List, [], ◌∷◌, map, length}
 use Rattle.txs_values.specs.Value.{Value, Ty}
 use Rattle.txs_terms.specs.Expr.{Expr, Puts, put, put_all, filled, expr_nodes, exprs_nodes}
-use Rattle.txs_terms.specs.Action.{Channels}
+use Rattle.txs_terms.specs.Action.{Channels, in_order}
 
 -- the name of a variable, a label that counts in the equality of terms
 abbrev pub Name : Type 0
@@ -20,6 +20,7 @@ pub record Offer : Type 0 where
 -- A prefix binds one slot for each position of its offers in order, an enable one for each name that it
 -- accepts, and a LET one for each binding, each seeing those before it. A HIDE binds the next channels.
 -- An automaton stands at a state.
+-- The gates of a parallel are a set: they ascend.
 pub data Term : Type 0 where
   stop : Term
   exits : List Expr → Term
@@ -85,7 +86,7 @@ with_channels f (prefix os gs t) = prefix (map (offer_at f) os) gs (with_channel
 with_channels f (step gs t) = step gs (with_channels f t)
 with_channels f (guard gs t) = guard gs (with_channels f t)
 with_channels f (choice a b) = choice (with_channels f a) (with_channels f b)
-with_channels f (par gates a b) = par (map f gates) (with_channels f a) (with_channels f b)
+with_channels f (par gates a b) = par (in_order (map f gates)) (with_channels f a) (with_channels f b)
 with_channels f (enable a xs b) = enable (with_channels f a) xs (with_channels f b)
 with_channels f (disable a b) = disable (with_channels f a) (with_channels f b)
 with_channels f (interrupt a b) = interrupt (with_channels f a) (with_channels f b)

@@ -1,10 +1,10 @@
 -- Which expressions and terms are well typed: what holds of all that comes of an accepted file.
-use Rattle.std.specs.Prelude.{◌≡◌, ℕ, ◌<◌, List, [], ◌∷◌, ◌++◌, length, Option, Some, None, slice_get}
+use Rattle.std.specs.Prelude.{◌≡◌, ◌⊎◌, ℕ, ◌<◌, false, List, [], ◌∷◌, ◌++◌, length, Option, Some, None, slice_get}
 use Rattle.txs_values.specs.Value.{Ty, whole, truth, string, named, Value, Table, Constructor, Place, place_of, field_types, HasType}
 use Rattle.txs_values.specs.Default.{default_if}
 use Rattle.txs_terms.specs.Expr.{Unary, negate, negation, to_text, from_text, len, is_made_by, select, Binary, plus, minus, times, divide, remainder, concat, differ, less_than, at_most, more_than, at_least, char_at, Expr, val, slot, local, constant, one, two, equal, both, either, choose, apply, build, let_in, Exprs, none, more}
 use Rattle.txs_terms.specs.Eval.{Defs}
-use Rattle.txs_terms.specs.Action.{Channels, Scope, types_on, types_over, from}
+use Rattle.txs_terms.specs.Action.{Channels, Ascending, is_empty, Scope, types_on, types_over, from}
 use Rattle.txs_terms.specs.Term.{Position, give, take, Offer, Term, stop, exits, prefix, step, guard, choice, par, enable, disable, interrupt, hide, call, bind, machine, hit, miss, Move, Automaton, move_term}
 use Rattle.txs_terms.specs.Rules.{Model, HasMove, offered}
 
@@ -164,7 +164,8 @@ abbrev pub ExitsWith : Option (List Ty) → List Ty → Type 0
 ExitsWith None exit_types = Unit {0}
 ExitsWith (Some ts) exit_types = ts ≡ exit_types
 
--- the term is well typed where its channels and its slots have these types, and it exits with values of no other types than these
+-- The term is well typed where its channels and its slots have these types, and it exits with values of no other types than these.
+-- Both sides of a parallel exit so, or one of them never exits, and then the whole does not.
 abbrev pub OfTerm : Table → Signatures → Scope → List Ty → List Ty → Term → Type 0
 OfTerm table signatures scope slots exit_types stop = Unit {0}
 OfTerm table signatures scope slots exit_types (exits es) = OfEach table signatures slots es exit_types
@@ -172,11 +173,15 @@ OfTerm table signatures scope slots exit_types (prefix os gs t) =
     FitOffers table signatures scope slots os
     × AreGuards table signatures (slots ++ types_over scope (offered os)) gs
     × OfTerm table signatures scope (slots ++ types_over scope (offered os)) exit_types t
+    × (is_empty (offered os) ≡ false)
 OfTerm table signatures scope slots exit_types (step gs t) = AreGuards table signatures slots gs × OfTerm table signatures scope slots exit_types t
 OfTerm table signatures scope slots exit_types (guard gs t) = AreGuards table signatures slots gs × OfTerm table signatures scope slots exit_types t
 OfTerm table signatures scope slots exit_types (choice a b) = OfTerm table signatures scope slots exit_types a × OfTerm table signatures scope slots exit_types b
 OfTerm table signatures scope slots exit_types (par gates a b) =
-    AllBelow (length scope) gates × OfTerm table signatures scope slots exit_types a × OfTerm table signatures scope slots exit_types b
+    AllBelow (length scope) gates × Ascending gates
+    × (OfTerm table signatures scope slots exit_types a × OfTerm table signatures scope slots exit_types b
+    ⊎ ((ts : List Ty) × OfTerm table signatures scope slots ts a) × ((ts : List Ty) → OfTerm table signatures scope slots ts b)
+    ⊎ ((ts : List Ty) → OfTerm table signatures scope slots ts a) × ((ts : List Ty) × OfTerm table signatures scope slots ts b))
 OfTerm table signatures scope slots exit_types (enable a xs b) =
     (ts : List Ty) × (length xs ≡ length ts) × OfTerm table signatures scope slots ts a × OfTerm table signatures scope (slots ++ ts) exit_types b
 OfTerm table signatures scope slots exit_types (disable a b) = OfTerm table signatures scope slots exit_types a × OfTerm table signatures scope slots exit_types b
@@ -209,4 +214,5 @@ pub record WellTyped (model : Model) (scope : Scope) (t : Term) : Type 0 where
   pub signatures : Signatures
   pub exit_types : List Ty
   pub definitions : IsTypedModel model signatures
+  pub channels : AreScope model.defs.table scope
   pub term : OfTerm model.defs.table signatures scope [] exit_types t
