@@ -4,3 +4,7 @@ pub mod Places
 pub mod Lists
 pub mod Channels
 pub mod Limits
+pub mod Sequential
+pub mod Parallel
+pub mod Enable
+pub mod Disable

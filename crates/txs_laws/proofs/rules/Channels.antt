@@ -1,7 +1,7 @@
 -- What unions of channels have.
 use Rattle.std.proofs.Common.{◌≡◌, ℕ, ◌<◌, Bool, true, false, cond, eqb, ltb, inl, inr, [], ◌∷◌, refl, sym, arith}
 use Rattle.std.proofs.lemmas.Bool.{eqb-true, eq-eqb, or_left, or_right, or_cases, ltb-true, ltb-false, eqb-false}
-use Rattle.txs_terms.specs.Action.{Channels, has, with_channel, union, kept, AllAbove, Ascending}
+use Rattle.txs_terms.specs.Action.{Channels, has, with_channel, union, kept, AllAbove, Ascending, is_empty}
 use Rattle.txs_terms.specs.Rules.{in_order}
 use Rattle.txs_laws.proofs.rules.Places.{Within}
 
@@ -112,3 +112,22 @@ kept_ascending p y ys false h a = a
 pub ascending_kept : (p : ℕ → Bool) (xs : Channels) → Ascending xs → Ascending (kept p xs)
 ascending_kept p [] a = tt
 ascending_kept p (x ∷ xs) a = kept_ascending p x xs (p x) (above_kept p x xs a.0) (ascending_kept p xs a.1)
+
+-- ---- there are some
+
+some_first : (c x : ℕ) (xs : Channels) (p q : Bool) → is_empty (cond p (c ∷ x ∷ xs) (cond q (x ∷ xs) (x ∷ with_channel c xs))) ≡ false
+some_first c x xs true q = refl
+some_first c x xs false true = refl
+some_first c x xs false false = refl
+
+some_new : (c : ℕ) (xs : Channels) → is_empty (with_channel c xs) ≡ false
+some_new c [] = refl
+some_new c (x ∷ xs) = some_first c x xs (ltb c x) (eqb c x)
+
+pub some_union : (xs ys : Channels) → is_empty ys ≡ false → is_empty (union xs ys) ≡ false
+some_union [] ys h = h
+some_union (x ∷ xs) ys h = some_new x (union xs ys)
+
+pub some_order : (cs : Channels) → is_empty cs ≡ false → is_empty (in_order cs) ≡ false
+some_order [] h = h
+some_order (c ∷ cs) h = some_new c (in_order cs)
