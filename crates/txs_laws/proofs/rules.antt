@@ -8,3 +8,5 @@ pub mod Sequential
 pub mod Parallel
 pub mod Enable
 pub mod Disable
+pub mod Prefix
+pub mod Empty
