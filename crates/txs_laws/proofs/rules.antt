@@ -9,4 +9,5 @@ pub mod Parallel
 pub mod Enable
 pub mod Disable
 pub mod Prefix
-pub mod Empty
+pub mod Slots
+pub mod Fix
