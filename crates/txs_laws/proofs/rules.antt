@@ -11,3 +11,4 @@ pub mod Disable
 pub mod Prefix
 pub mod Slots
 pub mod Fix
+pub mod Hide
