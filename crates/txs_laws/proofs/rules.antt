@@ -12,3 +12,4 @@ pub mod Prefix
 pub mod Slots
 pub mod Fix
 pub mod Hide
+pub mod Meaning
