@@ -13,3 +13,6 @@ pub mod Slots
 pub mod Fix
 pub mod Hide
 pub mod Meaning
+pub mod Closing
+pub mod Moving
+pub mod Traces
