@@ -16,3 +16,5 @@ pub mod Meaning
 pub mod Closing
 pub mod Moving
 pub mod Traces
+pub mod Left
+pub mod Rows

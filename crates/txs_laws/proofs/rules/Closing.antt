@@ -1,5 +1,5 @@
 -- A closed set is what internal steps reach from the set.
-use Rattle.std.proofs.Common.{◌≡◌, ℕ, ◌⊎◌, inl, inr, List, [], ◌∷◌, ◌++◌, refl, sym, ap, ◌∙◌, subst}
+use Rattle.std.proofs.Common.{◌≡◌, ℕ, ◌⊎◌, inl, inr, List, [], ◌∷◌, ◌++◌, refl, sym, ◌∙◌, subst}
 use Rattle.txs_terms.specs.Expr.{put_all, filled}
 use Rattle.txs_terms.specs.Eval.{Hold}
 use Rattle.txs_terms.specs.Action.{Label, inner, Scope}

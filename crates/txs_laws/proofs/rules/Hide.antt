@@ -1,146 +1,28 @@
 -- The menu of a hide.
-use Rattle.std.proofs.Common.{◌≡◌, ℕ, zero, suc, ◌+◌, ◌-◌, ◌<◌, ◌≤◌, Bool, true, false, cond, eqb, ltb, not, ◌||◌, ◌⊎◌, inl, inr, List, [], ◌∷◌, ◌++◌, length, refl, sym, ap, ◌∙◌, subst, arith}
-use Rattle.std.proofs.lemmas.Bool.{eqb-true, ltb-true, ltb-false, eq-eqb, ne_eqb, not-false, or_left, or_right, or_cases, or_parts}
+use Rattle.std.proofs.Common.{◌≡◌, ℕ, zero, suc, ◌<◌, ◌≤◌, Bool, true, false, cond, eqb, ltb, ◌||◌, ◌⊎◌, inl, inr, List, [], ◌∷◌, ◌++◌, length, refl, sym, ap, ◌∙◌, subst, arith}
+use Rattle.std.proofs.lemmas.Bool.{eqb-true, ltb-true, ltb-false, eq-eqb, or_left, or_right}
 use Rattle.txs_values.specs.Value.{Value, Ty, Table, HaveTypes}
-use Rattle.txs_terms.specs.Expr.{Expr, val, slot, Puts, put, put_all, filled, has_slot}
+use Rattle.txs_terms.specs.Expr.{put_all, filled}
 use Rattle.txs_terms.specs.Eval.{Defs, Hold}
-use Rattle.txs_terms.specs.Action.{Part, Action, Label, act, inner, ends, Channels, channels, values, values_on, values_over, part_of, has, kept, is_empty, AllAbove, Ascending, Scope, types_on, IsTyped, IsAction, from, types_over}
-use Rattle.txs_terms.specs.Term.{Term, stop, hide, put_term, fill}
+use Rattle.txs_terms.specs.Action.{Action, Label, act, inner, ends, Channels, channels, values, values_on, values_over, part_of, has, is_empty, Ascending, Scope, types_on, IsTyped, IsAction, types_over}
+use Rattle.txs_terms.specs.Term.{Term, stop, hide, fill}
 use Rattle.txs_terms.specs.Rules.{In, Model, visible, Step, shown, hidden, hide_inner, hide_ends}
-use Rattle.txs_terms.specs.Menu.{Kind, on, within, ending, Item, walked, Verdict, holds, fails, faults, judge, with_slots, without_slots, width, places, Fixed, unable, fixed, fix_all, position, closed_up, shown_kind, strip, Hidden, bad_item, left_with, strip_by, strip_fixed, loose_slots, hide_on, hide_kind, and_hidden, hide_all, hidden_walk}
+use Rattle.txs_terms.specs.Menu.{Kind, on, within, ending, Item, walked, Verdict, holds, fails, faults, judge, without_slots, width, places, Fixed, unable, fixed, fix_all, shown_kind, strip, Hidden, bad_item, left_with, strip_by, strip_fixed, loose_slots, hide_on, hide_kind, and_hidden, hide_all, hidden_walk}
 use Rattle.txs_laws.specs.Menus.{given, Does, IsSound, IsComplete}
-use Rattle.txs_laws.proofs.rules.Put.{Picked, then_put, filled_past, put_put_all, put_put_term}
+use Rattle.txs_laws.proofs.rules.Put.{Picked}
 use Rattle.txs_laws.proofs.rules.Tests.{judge_holds, holds_judge, from_parts, closed_part, open_part}
-use Rattle.txs_laws.proofs.rules.Places.{Within, HaveTypes-length, width-values, over_channels, typed_on, typed_part, channels_part, values_part}
+use Rattle.txs_laws.proofs.rules.Places.{Within, width-values, over_channels, typed_on, typed_part, channels_part, values_part}
 use Rattle.txs_laws.proofs.rules.Lists.{In_front, In_back, In-append, walked_items}
 use Rattle.txs_laws.proofs.rules.Channels.{ascending_kept}
 use Rattle.txs_laws.proofs.rules.Sequential.{Means, InOrder}
-use Rattle.txs_laws.proofs.rules.Fix.{Fixing, fix_all_from, keeps, extends, Reads, reads_all, reads_fixed}
+use Rattle.txs_laws.proofs.rules.Fix.{fix_all_from, keeps, extends}
 use Rattle.txs_values.specs.Default.{default_of}
 use Rattle.txs_terms.specs.Typed.{Signatures, AreTypes, AreScope, IsTable, AreTyped, AreGuards}
 use Rattle.txs_laws.specs.Items.{IsItem, AreItems}
 use Rattle.txs_laws.proofs.typing.Facts.{Facts}
 use Rattle.txs_laws.proofs.rules.Slots.{item_guards}
-
--- ---- lists of slots
-
-from_first : (i n j : ℕ) (q : Bool) → eqb i j ≡ q → i ≤ j → (i < j → has (from (suc i) n) j ≡ true) → (q || has (from (suc i) n) j) ≡ true
-from_first i n j true e l go = refl
-from_first i n j false e l go =
-    let ne : i ≡ j → ⊥ = (λ r. let k = eq-eqb i j r in absurd (cc)) in
-    go (omega arith)
-
-has_from : (i n j : ℕ) → i ≤ j → j < i + n → has (from i n) j ≡ true
-has_from i zero j a b = absurd (omega arith)
-has_from i (suc n) j a b = from_first i n j (eqb i j) refl a (λ l. has_from (suc i) n j l (omega arith))
-
-kept_first : (p : ℕ → Bool) (x j : ℕ) (xs : List ℕ) (b : Bool) → p x ≡ b → (has xs j ≡ true → has (kept p xs) j ≡ false → p j ≡ false)
-    → has (x ∷ xs) j ≡ true → has (cond b (x ∷ kept p xs) (kept p xs)) j ≡ false → p j ≡ false
-kept_first p x j xs true e go h k =
-    let o = or_parts (eqb x j) (has (kept p xs) j) k in
-    elim (or_cases (eqb x j) (has xs j) h) [ inl q ↦ (let r = o.0 in absurd (cc)) | inr q ↦ go q o.1 ]
-kept_first p x j xs false e go h k =
-    elim (or_cases (eqb x j) (has xs j) h) [ inl q ↦ subst (λ y. p y ≡ false) (eqb-true x j q) e | inr q ↦ go q k ]
-
-not_kept : (p : ℕ → Bool) (j : ℕ) (xs : List ℕ) → has xs j ≡ true → has (kept p xs) j ≡ false → p j ≡ false
-not_kept p j [] h k = cc
-not_kept p j (x ∷ xs) h k = kept_first p x j xs (p x) refl (not_kept p j xs) h k
-
-kept_only_first : (p : ℕ → Bool) (x j : ℕ) (xs : List ℕ) (b : Bool) → p x ≡ b → p j ≡ false → has (kept p xs) j ≡ false
-    → has (cond b (x ∷ kept p xs) (kept p xs)) j ≡ false
-kept_only_first p x j xs true e f h = both (eqb x j) refl
-  where
-    both : (q : Bool) → eqb x j ≡ q → (q || has (kept p xs) j) ≡ false
-    both true r = let s = subst (λ y. p y ≡ true) (eqb-true x j r) e in absurd (cc)
-    both false r = h
-kept_only_first p x j xs false e f h = h
-
-kept_only : (p : ℕ → Bool) (j : ℕ) (xs : List ℕ) → p j ≡ false → has (kept p xs) j ≡ false
-kept_only p j [] f = refl
-kept_only p j (x ∷ xs) f = kept_only_first p x j xs (p x) refl f (kept_only p j xs f)
-
-not_from : (b : Bool) → b ≡ true → not b ≡ false
-not_from true e = refl
-not_from false e = cc
-
--- a slot of a channel that is shown is not loose
-shown_fast : (ps : List ℕ) (size j : ℕ) → has ps j ≡ true → has (loose_slots ps size) j ≡ false
-shown_fast ps size j h = kept_only (λ i. not (has ps i)) j (from 0 size) (not_from (has ps j) h)
-
-fast_shown : (ps : List ℕ) (size j : ℕ) → j < size → has (loose_slots ps size) j ≡ false → has ps j ≡ true
-fast_shown ps size j l h =
-    not-false (has ps j) (not_kept (λ i. not (has ps i)) j (from 0 size) (has_from 0 size j (omega arith) (omega arith)) h)
-
--- ---- numbering anew
-
-Picked-length : (vs : List Value) (ps : List ℕ) (ws : List Value) → Picked vs ps ws → length ps ≡ length ws
-Picked-length vs [] [] h = refl
-Picked-length vs [] (w ∷ ws) h = absurd h
-Picked-length vs (p ∷ ps) [] h = absurd h
-Picked-length vs (p ∷ ps) (w ∷ ws) h = ap suc (Picked-length vs ps ws h.1)
-
-position_first : (vs : List Value) (p j : ℕ) (ps : List ℕ) (w : Value) (ws : List Value) (b : Bool) → eqb p j ≡ b
-    → filled vs p ≡ val w → (has ps j ≡ true → filled ws (position ps j) ≡ filled vs j) → (b || has ps j) ≡ true
-    → filled (w ∷ ws) (cond b 0 (suc (position ps j))) ≡ filled vs j
-position_first vs p j ps w ws true e f go h = sym f ∙ ap (filled vs) (eqb-true p j e)
-position_first vs p j ps w ws false e f go h = go h
-
-at_position : (vs : List Value) (ps : List ℕ) (ws : List Value) → Picked vs ps ws → (j : ℕ) → has ps j ≡ true → filled ws (position ps j) ≡ filled vs j
-at_position vs [] ws k j h = cc
-at_position vs (p ∷ ps) [] k j h = absurd k
-at_position vs (p ∷ ps) (w ∷ ws) k j h = position_first vs p j ps w ws (eqb p j) refl k.0 (at_position vs ps ws k.1 j) h
-
-closed_first : (vs : List Value) (ps : List ℕ) (ws : List Value) (size j : ℕ) (b : Bool) → ltb j size ≡ b → size ≡ length vs → Picked vs ps ws
-    → has (loose_slots ps size) j ≡ false → put (filled ws) (cond b (slot (position ps j)) (slot ((j - size) + length ps))) ≡ filled vs j
-closed_first vs ps ws size j true e n k h = at_position vs ps ws k j (fast_shown ps size j (ltb-true j size e) h)
-closed_first vs ps ws size j false e n k h =
-    let l = ltb-false j size e in
-    let m = Picked-length vs ps ws k in
-    let a : (j - size) + length ps ≡ (j - size) + length ws = omega arith in
-    let b : (j - size) + length vs ≡ j = omega arith in
-    ap (filled ws) a ∙ (filled_past ws (j - size) ∙ (sym (filled_past vs (j - size)) ∙ ap (filled vs) b))
-
-closed_agrees : (vs : List Value) (ps : List ℕ) (ws : List Value) (size : ℕ) → size ≡ length vs → Picked vs ps ws
-    → (j : ℕ) → not (has (loose_slots ps size) j) ≡ true → then_put (filled ws) (closed_up ps size) j ≡ filled vs j
-closed_agrees vs ps ws size n k j h = closed_first vs ps ws size j (ltb j size) refl n k (not_true (has (loose_slots ps size) j) h)
-  where
-    not_true : (b : Bool) → not b ≡ true → b ≡ false
-    not_true true e = cc
-    not_true false e = refl
-
-slots_first : (f g : Puts) (e : Expr) (gs : List Expr) (b : Bool) → put f e ≡ put g e → put_all f (with_slots gs) ≡ put_all g (with_slots gs)
-    → put_all f (cond b (e ∷ with_slots gs) (with_slots gs)) ≡ put_all g (cond b (e ∷ with_slots gs) (with_slots gs))
-slots_first f g e gs true h k = cc
-slots_first f g e gs false h k = k
-
-slots_alike : (f g : Puts) (gs : List Expr) → put_all f gs ≡ put_all g gs → put_all f (with_slots gs) ≡ put_all g (with_slots gs)
-slots_alike f g [] h = refl
-slots_alike f g (e ∷ gs) h = slots_first f g e gs (has_slot e) (cc) (slots_alike f g gs (cc))
-
--- what is left of an item whose hidden slots are fixed
-module _ (vs : List Value) (ps : List ℕ) (ws : List Value) (size : ℕ) (n : size ≡ length vs) (k : Picked vs ps ws)
-    (i : Item) (r : Reads (λ j. not (has (loose_slots ps size) j)) i) where
-  left_guards : put_all (filled ws) (put_all (closed_up ps size) (with_slots i.guards)) ≡ put_all (filled vs) (with_slots i.guards)
-  left_guards =
-      put_put_all (filled ws) (closed_up ps size) (with_slots i.guards)
-      ∙ slots_alike (then_put (filled ws) (closed_up ps size)) (filled vs) i.guards
-      (r.guards (then_put (filled ws) (closed_up ps size)) (filled vs) (closed_agrees vs ps ws size n k))
-
-  left_rest : fill ws (put_term (closed_up ps size) i.rest) ≡ fill vs i.rest
-  left_rest =
-      put_put_term (filled ws) (closed_up ps size) i.rest
-      ∙ r.rest (then_put (filled ws) (closed_up ps size)) (filled vs) (closed_agrees vs ps ws size n k)
-
--- the fixed item does not read the loose slots
-fixed_reads : {defs : Defs} {types : List Ty} (loose : List ℕ) {i i' : Item} → Fixing defs types loose i i' → Reads (λ j. not (has loose j)) i'
-fixed_reads loose {i = i} x = reads_fixed x (λ j. not (has loose j)) (record {
-  guards = λ f g h. (reads_all i).guards f g (λ j t. h j (excluded (has loose j)));
-  rest = λ f g h. (reads_all i).rest f g (λ j t. h j (excluded (has loose j)));
-})
-  where
-    excluded : (b : Bool) → (not b || b) ≡ true
-    excluded true = refl
-    excluded false = refl
+use Rattle.txs_laws.proofs.rules.Left.{shown_fast, fixed_reads, left_guards, left_rest}
+use Rattle.txs_laws.proofs.rules.Rows.{part_whole, typed_row, from_row, Picked_along, same_picked, same_parts}
 
 -- ---- the channels of a scope within another
 
@@ -446,108 +328,6 @@ module _ (facts : Facts) (model : Model) (scope hs : Scope) (known : IsTable mod
           by : (b : Bool) → b ≡ true → cond b (values_on y c) (defaults (types_on everything c)) ≡ values_on y c
           by true e = refl
           by false e = cc
-
--- ---- the whole of an ascending action
-
-above_apart : (x c : ℕ) → x < c → eqb x c ≡ false
-above_apart x c h = ne_eqb x c (λ e. omega arith)
-
-values_past : (p : Part) (ps : Action) (c : ℕ) → p.channel < c → values_on (p ∷ ps) c ≡ values_on ps c
-values_past p ps c h = by (eqb p.channel c) (above_apart p.channel c h)
-  where
-    by : (b : Bool) → b ≡ false → cond b p.values (values_on ps c) ≡ values_on ps c
-    by true e = cc
-    by false e = refl
-
-part_past : (p : Part) (ps : Action) (cs : Channels) → AllAbove p.channel cs → part_of (p ∷ ps) cs ≡ part_of ps cs
-part_past p ps [] a = refl
-part_past p ps (c ∷ cs) a = let v = values_past p ps c a.0 in let r = part_past p ps cs a.1 in cc
-
-values_here : (p : Part) (ps : Action) → values_on (p ∷ ps) p.channel ≡ p.values
-values_here p ps = by (eqb p.channel p.channel) (eq-eqb p.channel p.channel refl)
-  where
-    by : (b : Bool) → b ≡ true → cond b p.values (values_on ps p.channel) ≡ p.values
-    by true e = refl
-    by false e = cc
-
-with_values : Part → List Value → Part
-unfolding values_here
-with_values p vs = record { channel = p.channel; values = vs }
-
-part_whole : (a : Action) → Ascending (channels a) → part_of a (channels a) ≡ a
-unfolding with_values
-part_whole [] h = refl
-part_whole (p ∷ ps) h =
-    let v = ap (with_values p) (values_here p ps) in
-    let r = part_past p ps (channels ps) h.0 ∙ part_whole ps h.1 in
-    cc
-
--- ---- an action from values in a row
-
-typed_row : (table : Table) (scope : Scope) (a : Action) → IsTyped table scope a → HaveTypes table (values a) (types_over scope (channels a))
-typed_row table scope [] h = tt
-typed_row table scope (p ∷ ps) h = typed-append p.values (values ps) (types_on scope p.channel) _ h.0 (typed_row table scope ps h.1)
-  where
-    typed-append : (us vs : List Value) (ts ts' : List Ty) → HaveTypes table us ts → HaveTypes table vs ts' → HaveTypes table (us ++ vs) (ts ++ ts')
-    typed-append [] vs [] ts' a b = b
-    typed-append [] vs (t ∷ ts) ts' a b = absurd a
-    typed-append (u ∷ us) vs [] ts' a b = absurd a
-    typed-append (u ∷ us) vs (t ∷ ts) ts' a b = (a.0, typed-append us vs ts ts' a.1 b)
-
-cut_types : (table : Table) (ts ts' : List Ty) (vs : List Value) → HaveTypes table vs (ts ++ ts')
-    → (us : List Value) × (ws : List Value) × (vs ≡ us ++ ws) × HaveTypes table us ts × HaveTypes table ws ts'
-cut_types table [] ts' vs h = ([], vs, refl, tt, h)
-cut_types table (t ∷ ts) ts' [] h = absurd h
-cut_types table (t ∷ ts) ts' (v ∷ vs) h =
-    let p = cut_types table ts ts' vs h.1 in (v ∷ p.0, p.1, ap (λ xs. v ∷ xs) p.2, (h.0, p.3), p.4)
-
-from_row : (table : Table) (scope : Scope) (cs : Channels) (vs : List Value) → HaveTypes table vs (types_over scope cs)
-    → (x : Action) × (channels x ≡ cs) × (values x ≡ vs) × IsTyped table scope x
-from_row table scope [] [] h = ([], refl, refl, tt)
-from_row table scope [] (v ∷ vs) h = absurd h
-from_row table scope (c ∷ cs) vs h =
-    let p = cut_types table (types_on scope c) (types_over scope cs) vs h in
-    let q = from_row table scope cs p.1 p.4 in
-    (record { channel = c; values = p.0 } ∷ q.0, ap (λ xs. c ∷ xs) q.1, ap (λ ws. p.0 ++ ws) q.2 ∙ sym p.2, (p.3, q.3))
-
-Picked_along : (vs vs' : List Value) (ps : List ℕ) (ws : List Value) → ((j : ℕ) → has ps j ≡ true → filled vs' j ≡ filled vs j) → Picked vs ps ws → Picked vs' ps ws
-Picked_along vs vs' [] [] h k = tt
-Picked_along vs vs' [] (w ∷ ws) h k = k
-Picked_along vs vs' (p ∷ ps) [] h k = k
-Picked_along vs vs' (p ∷ ps) (w ∷ ws) h k = (
-  h p (or_left (eqb p p) (has ps p) (eq-eqb p p refl)) ∙ k.0,
-  Picked_along vs vs' ps ws (λ j m. h j (or_right (eqb p j) (has ps j) m)) k.1,
-)
-
-same_picked : (vs : List Value) (ps : List ℕ) (us ws : List Value) → Picked vs ps us → Picked vs ps ws → us ≡ ws
-same_picked vs [] [] [] a b = refl
-same_picked vs [] [] (w ∷ ws) a b = absurd b
-same_picked vs [] (u ∷ us) ws a b = absurd a
-same_picked vs (p ∷ ps) [] ws a b = absurd a
-same_picked vs (p ∷ ps) (u ∷ us) [] a b = absurd b
-same_picked vs (p ∷ ps) (u ∷ us) (w ∷ ws) a b =
-    let x = a.0 in let y = b.0 in let r = same_picked vs ps us ws a.1 b.1 in
-    let z : u ≡ w = cc in cc
-
-same_fronts : (us us' ws ws' : List Value) → length us ≡ length us' → us ++ ws ≡ us' ++ ws' → (us ≡ us') × (ws ≡ ws')
-same_fronts [] [] ws ws' n e = (refl, e)
-same_fronts [] (u ∷ us') ws ws' n e = cc
-same_fronts (u ∷ us) [] ws ws' n e = cc
-same_fronts (u ∷ us) (u' ∷ us') ws ws' n e =
-    let p = same_fronts us us' ws ws' (let q = n in cc) (cc) in
-    let x = p.0 in let h : u ≡ u' = cc in (cc, p.1)
-
--- parts with the same values in a row are the same
-same_parts : (table : Table) (scope : Scope) (x y : Action) (cs : Channels) → IsTyped table scope x → IsTyped table scope y → Within cs (channels x) → Within cs (channels y)
-    → values_over x cs ≡ values_over y cs → part_of x cs ≡ part_of y cs
-same_parts table scope x y [] tx ty wx wy e = refl
-same_parts table scope x y (c ∷ cs) tx ty wx wy e =
-    let nx = HaveTypes-length table (values_on x c) (types_on scope c) (typed_on table scope x c tx wx.0) in
-    let ny = HaveTypes-length table (values_on y c) (types_on scope c) (typed_on table scope y c ty wy.0) in
-    let p = same_fronts (values_on x c) (values_on y c) (values_over x cs) (values_over y cs) (nx ∙ sym ny) e in
-    let v = p.0 in
-    let r = same_parts table scope x y cs tx ty wx.1 wy.1 p.1 in
-    cc
 
 only_one : (v : Verdict) (z z' : Item) (zs : List Item) → ((v ≡ holds) × (zs ≡ z' ∷ [])) ⊎ ((v ≡ fails) × (zs ≡ [])) → In z zs → (v ≡ holds) × (z ≡ z')
 only_one v z z' zs (inl a) m = elim (subst (In z) a.1 m) [ inl b ↦ (a.0, b) | inr b ↦ absurd b ]

@@ -1,9 +1,8 @@
 -- The menu of a term that is not sick is its steps.
-use Rattle.std.proofs.Common.{◌≡◌, ℕ, zero, suc, ◌+◌, inl, inr, ltb, List, [], ◌∷◌, ◌++◌, length, Option, Some, None, refl, sym, ap, ◌∙◌, subst, Bool, false}
+use Rattle.std.proofs.Common.{◌≡◌, ℕ, zero, suc, ◌+◌, inl, inr, ltb, List, [], ◌∷◌, ◌++◌, length, Option, Some, None, refl, sym, ap, ◌∙◌, subst, false}
 use Rattle.std.specs.Prelude.{slice_get}
 use Rattle.txs_values.specs.Value.{Value, Ty, Table}
 use Rattle.txs_terms.specs.Expr.{Expr}
-use Rattle.txs_terms.specs.Eval.{Gives}
 use Rattle.txs_terms.specs.Action.{Channels, Label, Scope, is_empty}
 use Rattle.txs_terms.specs.Term.{Term, stop, exits, prefix, step, guard, choice, par, enable, disable, interrupt, hide, call, bind, machine, hit, miss, fill, instance, channels_bound, Move, offering, silent, Automaton, move_term, Name, Offer}
 use Rattle.txs_terms.specs.Rules.{In, Model, AllGive, HasMove, Step, unfold', binds, moves, AllBind, offered}
@@ -17,7 +16,7 @@ use Rattle.txs_laws.proofs.rules.Parallel.{par_means}
 use Rattle.txs_laws.proofs.rules.Enable.{enable_means}
 use Rattle.txs_laws.proofs.rules.Hide.{hide_means}
 use Rattle.txs_laws.proofs.rules.Disable.{disable_means, interrupt_means}
-use Rattle.txs_terms.specs.Typed.{Signatures, OfTerm, IsTypedModel, WellTyped}
+use Rattle.txs_terms.specs.Typed.{Signatures, OfTerm, IsTypedModel}
 use Rattle.txs_laws.specs.Items.{AreItems}
 use Rattle.txs_laws.proofs.typing.Facts.{Facts}
 
@@ -158,7 +157,7 @@ module _ (some_offers : PrefixesOffer) (model : Model) (scope : Scope) (k : ℕ)
       subst (Means model scope (machine k cs es q)) (walked_items n w [] is e) (nothing (no_state formals states a b))
   state_means signatures exit_types vs formals states n w is (Some ms) a b g o e =
       let r = moves_mean some_offers model scope k cs es vs signatures exit_types formals ms n w is
-          (λ m h. o formals m (record { states = states; moves = ms; automaton = a; state = b; listed = h })) e in (
+      (λ m h. o formals m (record { states = states; moves = ms; automaton = a; state = b; listed = h })) e in (
         (λ i l h d. let p = r.0 i l h d in
             moves vs formals p.0 (record { states = states; moves = ms; automaton = a; state = b; listed = p.1 }) g p.2),
         machine_complete vs formals states ms is a b g r.1,

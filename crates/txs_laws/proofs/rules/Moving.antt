@@ -1,5 +1,5 @@
 -- A set that is moved by an action is what its members become by it.
-use Rattle.std.proofs.Common.{◌≡◌, ℕ, eqb, Bool, true, false, inl, inr, List, [], ◌∷◌, ◌++◌, Option, Some, None, refl, sym, ap, ◌∙◌, subst}
+use Rattle.std.proofs.Common.{◌≡◌, eqb, Bool, true, false, inl, inr, List, [], ◌∷◌, ◌++◌, Option, Some, None, refl, sym, ap, ◌∙◌, subst}
 use Rattle.std.proofs.lemmas.Bool.{and_parts, and_from, eqb-true, eq-eqb}
 use Rattle.txs_terms.specs.Expr.{put_all, filled}
 use Rattle.txs_terms.specs.Eval.{Defs}

@@ -1,7 +1,6 @@
 -- The menu of a prefix with offers.
 use Rattle.std.specs.Prelude.{Option, Some, None}
-use Rattle.std.proofs.Common.{◌≡◌, ℕ, suc, Bool, true, false, cond, eqb, inl, inr, List, [], ◌∷◌, ◌++◌, length, refl, sym, ap, ◌∙◌, subst}
-use Rattle.std.proofs.lemmas.Bool.{and_parts, eqb-true, eq-eqb, and_from}
+use Rattle.std.proofs.Common.{◌≡◌, ℕ, suc, true, false, inl, inr, List, [], ◌∷◌, ◌++◌, length, refl, sym, ap, ◌∙◌, subst}
 use Rattle.txs_values.specs.Value.{Value, Table, Ty}
 use Rattle.txs_terms.specs.Expr.{Expr, val, slot, equal, put, put_all, filled, moved}
 use Rattle.txs_terms.specs.Eval.{Defs, Run, got, bad, eval, Gives, Hold, bool_true}
@@ -12,7 +11,7 @@ use Rattle.txs_terms.specs.Menu.{on, Item, Walk, walked, width, start, places, j
 use Rattle.txs_laws.specs.Menus.{given, Does, IsSound, Found, IsComplete}
 use Rattle.txs_laws.proofs.rules.Put.{Picked, fill_moved, fill_all_moved, put_all-append}
 use Rattle.txs_laws.proofs.rules.Tests.{one_value, equal_same, equal_holds, judge_holds, holds_judge, Hold-append, Hold_front, Hold_back, from_parts, closed_part, open_part, some_from}
-use Rattle.txs_laws.proofs.rules.Places.{width-values, over_channels, on_channel, typed_on, HaveTypes-length, Within}
+use Rattle.txs_laws.proofs.rules.Places.{width-values, over_channels, on_channel, Within}
 use Rattle.txs_laws.proofs.rules.Lists.{walked_items, where_holds_from}
 use Rattle.txs_laws.proofs.rules.Channels.{within_order, ascending_order, some_order}
 use Rattle.txs_laws.proofs.rules.Sequential.{Means, no_items, one_item}

@@ -1,5 +1,5 @@
 -- The menus of STOP, EXIT, prefix, ISTEP, guard and choice.
-use Rattle.std.proofs.Common.{◌≡◌, ℕ, inl, inr, List, [], ◌∷◌, ◌++◌, refl, sym, ap, subst, Bool, false}
+use Rattle.std.proofs.Common.{◌≡◌, ℕ, inl, inr, List, [], ◌∷◌, ◌++◌, refl, sym, ap, subst, false}
 use Rattle.txs_values.specs.Value.{Value}
 use Rattle.txs_terms.specs.Expr.{Expr}
 use Rattle.txs_terms.specs.Eval.{Hold}

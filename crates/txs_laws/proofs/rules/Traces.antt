@@ -1,8 +1,8 @@
 -- Sets that are closed and moved are the terms after a trace.
-use Rattle.std.proofs.Common.{◌≡◌, inl, inr, List, [], ◌∷◌, refl, sym, subst}
+use Rattle.std.proofs.Common.{inl, inr, List, [], ◌∷◌, refl, sym, subst}
 use Rattle.txs_terms.specs.Action.{act, inner, Scope}
 use Rattle.txs_terms.specs.Term.{Term}
-use Rattle.txs_terms.specs.Rules.{In, Model}
+use Rattle.txs_terms.specs.Rules.{Model}
 use Rattle.txs_terms.specs.After.{Inners, here, onward, Observable, acted, quiescence, Sync, After}
 use Rattle.txs_terms.specs.Typed.{WellTyped}
 use Rattle.txs_laws.specs.Sets.{AllWellTyped, FirstIsAfter, NextIsAfter}
