@@ -1,10 +1,10 @@
 -- Which expressions and terms are well typed: what holds of all that comes of an accepted file.
-use Rattle.std.specs.Prelude.{◌≡◌, ℕ, ◌<◌, List, [], ◌∷◌, ◌++◌, length, Option, Some, None, slice_get}
+use Rattle.std.specs.Prelude.{◌≡◌, ℕ, false, ◌<◌, List, [], ◌∷◌, ◌++◌, length, Option, Some, None, slice_get}
 use Rattle.txs_values.specs.Value.{Ty, whole, truth, string, named, Value, Table, Constructor, Place, place_of, field_types, HasType}
 use Rattle.txs_values.specs.Default.{default_if}
 use Rattle.txs_terms.specs.Expr.{Unary, negate, negation, to_text, from_text, len, is_made_by, select, Binary, plus, minus, times, divide, remainder, concat, differ, less_than, at_most, more_than, at_least, char_at, Expr, val, slot, local, constant, one, two, equal, both, either, choose, apply, build, let_in, Exprs, none, more}
 use Rattle.txs_terms.specs.Eval.{Defs}
-use Rattle.txs_terms.specs.Action.{Channels, Scope, types_on, types_over, from}
+use Rattle.txs_terms.specs.Action.{Channels, is_empty, Scope, types_on, types_over, from}
 use Rattle.txs_terms.specs.Term.{Position, give, take, Offer, Term, stop, exits, prefix, step, guard, choice, par, enable, disable, interrupt, hide, call, bind, machine, hit, miss, Move, Automaton, move_term}
 use Rattle.txs_terms.specs.Rules.{Model, HasMove, offered}
 
@@ -172,6 +172,7 @@ OfTerm table signatures scope slots exit_types (prefix os gs t) =
     FitOffers table signatures scope slots os
     × AreGuards table signatures (slots ++ types_over scope (offered os)) gs
     × OfTerm table signatures scope (slots ++ types_over scope (offered os)) exit_types t
+    × (is_empty (offered os) ≡ false)
 OfTerm table signatures scope slots exit_types (step gs t) = AreGuards table signatures slots gs × OfTerm table signatures scope slots exit_types t
 OfTerm table signatures scope slots exit_types (guard gs t) = AreGuards table signatures slots gs × OfTerm table signatures scope slots exit_types t
 OfTerm table signatures scope slots exit_types (choice a b) = OfTerm table signatures scope slots exit_types a × OfTerm table signatures scope slots exit_types b

@@ -271,3 +271,6 @@ module _ (facts : Facts) (some_offers : PrefixesOffer) (model : Model) (signatur
 pub menu_is_rules : Facts → PrefixesOffer → MenuIsRules
 menu_is_rules facts some_offers model scope t n items w e =
     let m = walk_means facts some_offers model w.signatures w.definitions path_limit scope w.exit_types t 0 n items w.term e in (m.0, m.1)
+
+pub prefixes_offer : PrefixesOffer
+prefixes_offer table signatures scope slots exit_types os gs t o = o.3
