@@ -1,4 +1,4 @@
+pub mod rules
 pub mod typing
-pub mod solver_base
 pub mod solver
 pub mod examples

@@ -2,5 +2,11 @@
 #![tactic(auto)]
 
 mod answers;
+mod decided;
+mod menus;
+mod sets;
 
 pub use answers::{atoms_decide, sat_is_true};
+pub use decided::{points_have_cells, sat_is_point, unsat_is_none};
+pub use menus::items_are_steps;
+pub use sets::{closed_is_reached, first_is_after, moved_is_stepped, next_is_after};

@@ -13,8 +13,8 @@ use Rattle.txs_guard.specs.Candidates.{cells, up_to, count_made, fields_of}
 use Rattle.txs_guard.specs.Mentioned.{flat}
 use Rattle.txs_guard.specs.Point.{IsPoint, IsTrueAt}
 use Rattle.txs_guard.specs.Query.{Query}
-use Rattle.txs_laws.proofs.solver_base.Tests.{put_closed, same_value-true, same_value_refl}
-use Rattle.txs_laws.proofs.solver_base.Lists.{In-append, In_mapped}
+use Rattle.txs_laws.proofs.rules.Tests.{put_closed, same_value-true, same_value_refl}
+use Rattle.txs_laws.proofs.rules.Lists.{In-append, In_mapped}
 use Rattle.txs_laws.proofs.solver.Members.{In_with_each, In_up_to, made, place_below}
 use Rattle.txs_laws.proofs.solver.Runs.{closed_gives, then_from, at_slot, place_gives}
 

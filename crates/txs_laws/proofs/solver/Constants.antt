@@ -12,7 +12,7 @@ use Rattle.txs_guard.specs.Atom.{atoms_of, atoms_of_all, fixed_value, value_in}
 use Rattle.txs_guard.specs.Mentioned.{some_list, sides_of, constants_of, constants, numbers_in, numbers_in_each}
 use Rattle.txs_guard.specs.Point.{IsTypedQuery}
 use Rattle.txs_laws.proofs.typing.Facts.{Facts}
-use Rattle.txs_laws.proofs.solver_base.Lists.{In-append}
+use Rattle.txs_laws.proofs.rules.Lists.{In-append}
 use Rattle.txs_laws.proofs.solver.Members.{In-flat}
 use Rattle.txs_laws.proofs.solver.Atoms.{ConstantsFit}
 

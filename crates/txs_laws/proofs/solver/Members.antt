@@ -7,7 +7,7 @@ use Rattle.txs_terms.specs.Rules.{In}
 use Rattle.txs_guard.specs.Candidates.{with_each, cells, Pools, count_made, up_to, fields_of, field_choices, each_field, made_choices, choices, slot_choices}
 use Rattle.txs_guard.specs.Mentioned.{Path, below, flat, paths_at}
 use Rattle.txs_guard.specs.Place.{Spot}
-use Rattle.txs_laws.proofs.solver_base.Lists.{In_front, In_back, In-append, In_mapped}
+use Rattle.txs_laws.proofs.rules.Lists.{In_front, In_back, In-append, In_mapped}
 use Rattle.txs_laws.proofs.solver.Texts.{Text}
 use Rattle.txs_laws.proofs.solver.Squash.{Shape, unless_none, fields_at, squash, squash_each, In_below, below_In, Known, KnownEach, known_fields, known_head, known_tail}
 

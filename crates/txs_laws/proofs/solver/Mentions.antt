@@ -10,7 +10,7 @@ use Rattle.txs_guard.specs.Candidates.{longest}
 use Rattle.txs_guard.specs.Mentioned.{Path, flat, some_list, sides_of, constants_of, prefixes, spot, spots_below, spots_of, slot_spots, mentioned, paths_at, places_of, any_is, same_spot, same_path, once, of_type, places_with}
 use Rattle.txs_guard.specs.Place.{Spot, spot_of, spot_type, is_type, type_under, field_type}
 use Rattle.txs_guard.specs.Query.{Query}
-use Rattle.txs_laws.proofs.solver_base.Lists.{In_front, In_back, In-append, In_mapped, In-map}
+use Rattle.txs_laws.proofs.rules.Lists.{In_front, In_back, In-append, In_mapped, In-map}
 use Rattle.txs_laws.proofs.solver.Squash.{step, follow, fields_at}
 use Rattle.txs_laws.proofs.solver.Members.{Rooted, Deep, In_flat, In-flat, made}
 

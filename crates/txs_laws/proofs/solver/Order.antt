@@ -14,7 +14,7 @@ use Rattle.txs_guard.specs.Place.{Spot, spot_of, spot_type, is_type, same_ty, is
 use Rattle.txs_guard.specs.Point.{IsPoint}
 use Rattle.txs_guard.specs.Query.{Query}
 use Rattle.txs_laws.specs.Cells.{EndsAlike, EndAlike}
-use Rattle.txs_laws.proofs.solver_base.Tests.{put_closed, same_value-true, same_value_refl}
+use Rattle.txs_laws.proofs.rules.Tests.{put_closed, same_value-true, same_value_refl}
 use Rattle.std.specs.Cmp.Lexicographic.{bytes_decides}
 use Rattle.txs_laws.proofs.solver.Press.{least_is, pressed_order, pressed_fixed}
 use Rattle.txs_laws.proofs.solver.Texts.{Text}

@@ -9,7 +9,7 @@ use Rattle.txs_values.specs.Value.{fits}
 use Rattle.txs_terms.specs.Rules.{In}
 use Rattle.txs_guard.specs.Candidates.{insert, run_up, least, sort_in_range, runs_up, whole_candidates}
 use Rattle.txs_guard.specs.Mentioned.{any_is}
-use Rattle.txs_laws.proofs.solver_base.Lists.{In_front, In_back}
+use Rattle.txs_laws.proofs.rules.Lists.{In_front, In_back}
 use Rattle.txs_laws.proofs.solver.Climb.{climb, climb_within, climb_strict, climb_fixed, above, marked_few, up_test, down_test, none_at, pressed, Side, up, down, side_of, pressed_up, pressed_down}
 
 -- ---- members

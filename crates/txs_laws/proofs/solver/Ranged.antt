@@ -12,7 +12,7 @@ use Rattle.txs_guard.specs.Candidates.{cells, up_to, count_made, fields_of}
 use Rattle.txs_guard.specs.Mentioned.{flat}
 use Rattle.txs_guard.specs.Point.{IsPoint, IsTypedQuery}
 use Rattle.txs_laws.proofs.typing.Facts.{Facts}
-use Rattle.txs_laws.proofs.solver_base.Lists.{In-append, In-map}
+use Rattle.txs_laws.proofs.rules.Lists.{In-append, In-map}
 use Rattle.txs_laws.proofs.solver.Press.{fits_between}
 use Rattle.txs_laws.proofs.solver.Bounds.{left_bound, bounded, both_some, some_list_same}
 use Rattle.txs_laws.proofs.solver.Constants.{typed_fits, fixed_typed, IsTruth, IsTyped, equal_typed, two_typed}

@@ -16,7 +16,7 @@ use Rattle.txs_guard.specs.Query.{Query}
 use Rattle.txs_laws.specs.Answers.{SatIsTrue}
 use Rattle.txs_laws.specs.Cells.{EndAlike}
 use Rattle.txs_laws.proofs.solver.Atoms.{ConstantsFit}
-use Rattle.txs_laws.proofs.solver_base.Tests.{judge_holds, holds_judge}
+use Rattle.txs_laws.proofs.rules.Tests.{judge_holds, holds_judge}
 use Rattle.txs_laws.proofs.solver.Congruence.{atoms_decide, alike_front, alike_back}
 use Rattle.txs_laws.proofs.solver.Order.{point_has_cell}
 use Rattle.txs_laws.proofs.solver.Bounds.{true_point_In}

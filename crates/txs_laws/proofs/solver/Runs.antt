@@ -9,7 +9,7 @@ use Rattle.txs_terms.specs.Rules.{In}
 use Rattle.txs_guard.specs.Atom.{value_in}
 use Rattle.txs_guard.specs.Mentioned.{Path, below, paths_at}
 use Rattle.txs_guard.specs.Place.{Spot, spot_of, under}
-use Rattle.txs_laws.proofs.solver_base.Limits.{run_better}
+use Rattle.txs_laws.proofs.rules.Limits.{run_better}
 use Rattle.txs_laws.proofs.solver.Squash.{Shape, fields_at, squash, squash_each, along, along_push, step, follow, follow_push, map_some, field_of_squashed}
 use Rattle.txs_laws.proofs.solver.Members.{squash_all}
 

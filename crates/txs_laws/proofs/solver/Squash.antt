@@ -7,7 +7,7 @@ use Rattle.std.proofs.lemmas.Bool.{and_parts, and_from, both_ways, eqb-true, eq-
 use Rattle.txs_values.specs.Value.{Ty, Value, num, bool, text, cons, Values, no_value, and_value, listed, Table, Field, Place, place_of, same_value, same_each}
 use Rattle.txs_terms.specs.Rules.{In}
 use Rattle.txs_guard.specs.Mentioned.{Path, below, places_of, places_of_each, numbers_in, numbers_in_each, texts_in, texts_in_each}
-use Rattle.txs_laws.proofs.solver_base.Lists.{In_front, In_back, In_mapped}
+use Rattle.txs_laws.proofs.rules.Lists.{In_front, In_back, In_mapped}
 use Rattle.txs_laws.proofs.solver.Texts.{Text}
 
 pub record Shape : Type 0 where

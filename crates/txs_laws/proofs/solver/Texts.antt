@@ -8,7 +8,7 @@ use Rattle.std.proofs.lemmas.Bool.{or_cases, or_left, or_right, false_from_ne_tr
 use Rattle.txs_terms.specs.Rules.{In}
 use Rattle.txs_guard.specs.Candidates.{fresh_text, fresh_from, fresh_texts, text_candidates}
 use Rattle.txs_guard.specs.Mentioned.{any_is}
-use Rattle.txs_laws.proofs.solver_base.Lists.{In_front, In_back}
+use Rattle.txs_laws.proofs.rules.Lists.{In_front, In_back}
 
 abbrev pub Text : Type 0
 Text = List ℕ

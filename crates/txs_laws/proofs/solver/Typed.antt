@@ -13,7 +13,7 @@ use Rattle.txs_guard.specs.Place.{Spot}
 use Rattle.txs_guard.specs.Point.{IsPoint}
 use Rattle.txs_guard.specs.Query.{Query}
 use Rattle.txs_laws.proofs.typing.Facts.{Facts}
-use Rattle.txs_laws.proofs.solver_base.Lists.{In-append, In-map}
+use Rattle.txs_laws.proofs.rules.Lists.{In-append, In-map}
 use Rattle.txs_laws.proofs.solver.Members.{In-flat}
 
 -- ---- candidates of Ints are in range

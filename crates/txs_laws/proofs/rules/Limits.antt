@@ -3,8 +3,8 @@ use Rattle.std.proofs.Common.{◌≡◌, ℕ, zero, suc, ◌≤◌, Bool, true, 
 use Rattle.std.specs.Prelude.{slice_get}
 use Rattle.std.proofs.lemmas.Bool.{ltb-true, lt-ltb}
 use Rattle.txs_values.specs.Value.{Value, num, bool, text, cons, packed, same_value}
-use Rattle.txs_terms.specs.Eval.{Defs, Run, got, bad, long, Runs, gots, bads, Eval, then_run, then_runs, cons_run, with_first, each, Outcome, fine, broken, after, unary, binary, sized, if_true, body_run, node, run, node_limit}
 use Rattle.txs_terms.specs.Expr.{Expr, val, slot, local, constant, one, two, equal, both, either, choose, apply, build, let_in, with_local, Exprs, none, more, put, filled}
+use Rattle.txs_terms.specs.Eval.{Defs, Run, got, bad, long, Runs, gots, bads, Eval, then_run, then_runs, cons_run, with_first, each, Outcome, fine, broken, after, unary, binary, sized, if_true, body_run, node, run, height_limit, node_limit, Gives, bool_true}
 
 -- what the one gives, the other gives after no more nodes
 abbrev pub Better : Run → Run → Type 0
@@ -92,7 +92,7 @@ node_better defs ev ev' b (either x y) n n' h =
 node_better defs ev ev' b (build c es) n n' h =
     then_all_better (each ev es n) (each ev' es n') _ _ (each_better ev ev' b es n n' h)
     (λ vs k k' g. after_better (sized (cons c (packed vs))) k k' g)
-node_better defs ev ev' b (let_in _ x y) n n' h =
+node_better defs ev ev' b (let_in v x y) n n' h =
     then_better (ev x n) (ev' x n') _ _ (b x n n' h) (λ w k k' g. b (with_local w y) k k' g)
 node_better defs ev ev' b (equal x y) n n' h =
     then_better (ev x n) (ev' x n') _ _ (b x n n' h)
@@ -118,3 +118,37 @@ run_better defs (suc h) (suc h') l e n n' g =
     let l' : h ≤ h' = omega arith in
     entered (ltb n node_limit) (ltb n' node_limit) _ _ (λ t. let k = ltb-true n node_limit t in lt-ltb n' node_limit (omega arith))
     (node_better defs (run defs h) (run defs h') (run_better defs h h' l') e (suc n) (suc n') (omega arith))
+
+-- both sides of an equation that holds give one value
+pub sides_give : (defs : Defs) (a b : Expr) → Gives defs (equal a b) bool_true
+    → (x : Value) × (y : Value) × Gives defs a x × Gives defs b y × (same_value x y ≡ true)
+sides_give defs a b p = go height_limit refl p.1
+  where
+    go : (h : ℕ) → h ≡ height_limit → run defs h (equal a b) 0 ≡ got bool_true p.0
+        → (x : Value) × (y : Value) × Gives defs a x × Gives defs b y × (same_value x y ≡ true)
+    go h e q = two h e (entered_got h q)
+      where
+        entered_got : (h : ℕ) → run defs h (equal a b) 0 ≡ got bool_true p.0
+            → (k : ℕ) × (h ≡ suc k) × (node defs (run defs k) (equal a b) 1 ≡ got bool_true p.0)
+        entered_got zero q = cc
+        entered_got (suc k) q = (k, refl, below (ltb 0 node_limit) q)
+          where
+            below : (t : Bool) → cond t (node defs (run defs k) (equal a b) 1) (bad long) ≡ got bool_true p.0
+                → node defs (run defs k) (equal a b) 1 ≡ got bool_true p.0
+            below true q = q
+            below false q = cc
+
+        two : (h : ℕ) → h ≡ height_limit → (k : ℕ) × (h ≡ suc k) × (node defs (run defs k) (equal a b) 1 ≡ got bool_true p.0)
+            → (x : Value) × (y : Value) × Gives defs a x × Gives defs b y × (same_value x y ≡ true)
+        two h e (k, hk, q) =
+            let l : k ≤ height_limit = omega arith in
+            let pa = parts_of (run defs k a 1) _ q in
+            let pb = parts_of (run defs k b pa.1) _ pa.3 in
+            let ga = run_better defs k height_limit l a 1 0 (omega arith) pa.0 pa.1 pa.2 in
+            let gb = run_better defs k height_limit l b pa.1 0 (omega arith) pb.0 pb.1 pb.2 in
+            (pa.0, pb.0, (ga.0, ga.1), (gb.0, gb.1), (let s = pb.3 in cc))
+          where
+            parts_of : (r : Run) (go : Value → ℕ → Run) → then_run r go ≡ got bool_true p.0
+                → (w : Value) × (m : ℕ) × (r ≡ got w m) × (go w m ≡ got bool_true p.0)
+            parts_of (got w m) go e = (w, m, refl, e)
+            parts_of (bad f) go e = cc

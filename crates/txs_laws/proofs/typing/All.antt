@@ -1,0 +1,4 @@
+use Rattle.txs_laws.proofs.typing.Facts.{Facts}
+
+pub facts : Facts
+facts = ?
