@@ -118,10 +118,10 @@ of_calls slots e exit_types o =
 
 of_body : (exit_types : List Ty) → OfTerm table signatures scope (named 0 ∷ []) exit_types body
 of_body exit_types =
-    (((omega arith, tt, tt), tt, of_calls _ _ exit_types (apply_of refl (more_of' (slot_of refl) (more_of' (slot_of refl) none_of)))),
+    (((omega arith, tt, tt), tt, of_calls _ _ exit_types (apply_of refl (more_of' (slot_of refl) (more_of' (slot_of refl) none_of))), refl),
     ((omega arith, (one_of (select_of 1 0 0 whole cell cell_place refl) (slot_of refl), tt), tt),
     (one_of negation_of (one_of (made_by_of 0 0 nil nil_place) (slot_of refl)), tt),
-    of_calls _ _ exit_types (one_of (select_of 1 1 0 (named 0) cell cell_place refl) (slot_of refl))))
+    of_calls _ _ exit_types (one_of (select_of 1 1 0 (named 0) cell cell_place refl) (slot_of refl)), refl))
 
 AddHas : Signature → Type 0
 AddHas s = (e : Expr) × (slice_get queue.defs.functions 0 ≡ Some e) × Of table signatures s.takes [] e s.gives
@@ -150,4 +150,4 @@ model_typed = record {
 }
 
 pub queue_typed : WellTyped queue scope (calls empty)
-queue_typed = record { signatures = signatures; exit_types = []; definitions = model_typed; term = of_calls [] empty [] nil_of }
+queue_typed = record { signatures = signatures; exit_types = []; definitions = model_typed; channels = ((tt, tt), ((tt, tt), tt)); term = of_calls [] empty [] nil_of }

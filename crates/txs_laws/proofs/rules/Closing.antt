@@ -25,6 +25,7 @@ step_well facts model scope t t' l w s = record {
   signatures = w.signatures;
   exit_types = w.exit_types;
   definitions = w.definitions;
+  channels = w.channels;
   term = (facts.step_typed model w.signatures w.definitions scope w.exit_types t t' l w.term s).1;
 }
 

@@ -1,4 +1,4 @@
--- The menu of a term that is not sick is its steps.
+-- The items of a term without a menu fault are its steps.
 use Rattle.std.proofs.Common.{◌≡◌, ℕ, zero, suc, ◌+◌, inl, inr, ltb, List, [], ◌∷◌, ◌++◌, length, Option, Some, None, refl, sym, ap, ◌∙◌, subst, false}
 use Rattle.std.specs.Prelude.{slice_get}
 use Rattle.txs_values.specs.Value.{Value, Ty, Table}
@@ -175,6 +175,19 @@ module _ (some_offers : PrefixesOffer) (model : Model) (scope : Scope) (k : ℕ)
 some_term : {x y : Term} → Some x ≡ Some y → x ≡ y
 some_term e = cc
 
+-- each side of a well typed parallel is well typed
+par_left : (table : Table) (signatures : Signatures) (scope : Scope) (exit_types : List Ty) (gates : Channels) (a b : Term)
+    → OfTerm table signatures scope [] exit_types (par gates a b) → (ts : List Ty) × OfTerm table signatures scope [] ts a
+par_left table signatures scope exit_types gates a b (l, g, inl p) = (exit_types, p.0)
+par_left table signatures scope exit_types gates a b (l, g, inr (inl p)) = p.0
+par_left table signatures scope exit_types gates a b (l, g, inr (inr p)) = (exit_types, p.0 exit_types)
+
+par_right : (table : Table) (signatures : Signatures) (scope : Scope) (exit_types : List Ty) (gates : Channels) (a b : Term)
+    → OfTerm table signatures scope [] exit_types (par gates a b) → (ts : List Ty) × OfTerm table signatures scope [] ts b
+par_right table signatures scope exit_types gates a b (l, g, inl p) = (exit_types, p.1)
+par_right table signatures scope exit_types gates a b (l, g, inr (inl p)) = (exit_types, p.1 exit_types)
+par_right table signatures scope exit_types gates a b (l, g, inr (inr p)) = p.1
+
 module _ (facts : Facts) (some_offers : PrefixesOffer) (model : Model) (signatures : Signatures) (typed : IsTypedModel model signatures) where
   abbrev AllMean : Walks → Type 0
   AllMean go =
@@ -225,7 +238,9 @@ module _ (facts : Facts) (some_offers : PrefixesOffer) (model : Model) (signatur
       let p = then_walk_from (go scope a n) _ m is e in
       let q = then_walk_from (go scope b p.0) _ m is p.3 in
       subst (Means model scope (par gates a b)) (walked_items q.0 m _ is q.3)
-      (par_means model scope gates a b p.1 q.1 (k scope exit_types a n p.0 p.1 o.1 p.2) (k scope exit_types b p.0 q.0 q.1 o.2 q.2))
+      (let l = par_left model.defs.table signatures scope exit_types gates a b o in
+      let r = par_right model.defs.table signatures scope exit_types gates a b o in
+      par_means model scope gates a b p.1 q.1 (k scope l.0 a n p.0 p.1 l.1 p.2) (k scope r.0 b p.0 q.0 q.1 r.1 q.2))
   level_means go k w scope exit_types (enable a xs b) n m is o e =
       let p = then_walk_from (go scope a n) _ m is e in
       subst (Means model scope (enable a xs b)) (walked_items p.0 m _ is p.3)

@@ -4,9 +4,9 @@ use Rattle.std.proofs.Common.{◌≡◌, ℕ, suc, true, false, inl, inr, List, 
 use Rattle.txs_values.specs.Value.{Value, Table, Ty}
 use Rattle.txs_terms.specs.Expr.{Expr, val, slot, equal, put, put_all, filled, moved}
 use Rattle.txs_terms.specs.Eval.{Defs, Run, got, bad, eval, Gives, Hold, bool_true}
-use Rattle.txs_terms.specs.Action.{Action, Label, act, inner, ends, Channels, channels, values, values_on, values_over, has, Scope, arity, types_on, IsTyped, IsAction, from, is_empty}
+use Rattle.txs_terms.specs.Action.{Action, Label, act, inner, ends, Channels, channels, values, values_on, values_over, has, Scope, arity, types_on, IsTyped, IsAction, from, is_empty, in_order}
 use Rattle.txs_terms.specs.Term.{Position, give, take, Offer, Term, prefix, fill}
-use Rattle.txs_terms.specs.Rules.{Model, Meets, MeetAll, offered, in_order, Step, offers}
+use Rattle.txs_terms.specs.Rules.{Model, Meets, MeetAll, offered, Step, offers}
 use Rattle.txs_terms.specs.Menu.{on, Item, Walk, walked, width, start, places, judge, fails, with_slots, without_slots, where_some, fixed_by, fixes, both_lists, all_fixes, prefix_item, prefix_walk}
 use Rattle.txs_laws.specs.Menus.{given, Does, IsSound, Found, IsComplete}
 use Rattle.txs_laws.proofs.rules.Put.{Picked, fill_moved, fill_all_moved, put_all-append}
