@@ -1,1 +1,10 @@
 pub mod Facts
+pub mod Numbers
+pub mod Reading
+pub mod Lists
+pub mod Putting
+pub mod Outcomes
+pub mod Runs
+pub mod Defaults
+pub mod Puts
+pub mod Terms
