@@ -8,3 +8,5 @@ pub mod Runs
 pub mod Defaults
 pub mod Puts
 pub mod Terms
+pub mod Channels
+pub mod Steps
