@@ -10,3 +10,4 @@ pub mod Puts
 pub mod Terms
 pub mod Channels
 pub mod Steps
+pub mod Slots
