@@ -11,3 +11,4 @@ pub mod Terms
 pub mod Channels
 pub mod Steps
 pub mod Slots
+pub mod Fixing

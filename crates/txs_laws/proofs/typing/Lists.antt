@@ -1,6 +1,6 @@
 -- Members of joined lists, and values that have types one by one.
 use Rattle.std.specs.Prelude.{Option, Some, None, slice_get}
-use Rattle.std.proofs.Common.{◌≡◌, ℕ, zero, suc, ◌+◌, List, [], ◌∷◌, ◌++◌, length, refl, sym, ap, ◌∙◌, subst, arith}
+use Rattle.std.proofs.Common.{◌≡◌, ◌<◌, ℕ, zero, suc, ◌+◌, List, [], ◌∷◌, ◌++◌, length, refl, sym, ap, ◌∙◌, subst, arith}
 use Rattle.txs_values.specs.Value.{Ty, Value, Table, HasType, HaveTypes}
 
 pub same_some : {A : Type 0} {x y : A} → Some x ≡ Some y → x ≡ y
@@ -27,6 +27,11 @@ pub member_past : {A : Type 0} (xs ys : List A) (i m : ℕ) → m ≡ i + length
 member_past [] ys i m e = ap (slice_get ys) (let q : m ≡ i = omega arith in q)
 member_past (x ∷ xs) ys i zero e = absurd (omega arith)
 member_past (x ∷ xs) ys i (suc m) e = member_past xs ys i m (omega arith)
+
+pub member_before : {A : Type 0} (xs ys : List A) (i : ℕ) (x : A) → i < length xs → slice_get (xs ++ ys) i ≡ Some x → slice_get xs i ≡ Some x
+member_before [] ys i x h e = absurd (omega arith)
+member_before (z ∷ xs) ys zero x h e = e
+member_before (z ∷ xs) ys (suc i) x h e = member_before xs ys i x (omega arith) e
 
 pub have_joined : (table : Table) (vs : List Value) (ts : List Ty) (ws : List Value) (us : List Ty) → HaveTypes table vs ts → HaveTypes table ws us
     → HaveTypes table (vs ++ ws) (ts ++ us)
