@@ -12,3 +12,6 @@ pub mod Channels
 pub mod Steps
 pub mod Slots
 pub mod Fixing
+pub mod Walks
+pub mod Items
+pub mod Proved

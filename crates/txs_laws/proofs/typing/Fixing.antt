@@ -191,7 +191,7 @@ module _ (defs : Defs) (signatures : Signatures) (typed : AreTyped defs signatur
   pub Settles : List ℕ → Puts → Type 0
   Settles loose f = (i : ℕ) → PutsAt f i (has loose i)
 
-  pub Settled : List ℕ → Item → Item → Type 0
+  abbrev pub Settled : List ℕ → Item → Item → Type 0
   Settled loose i j = (f : Puts) × Settles loose f × (j.guards ≡ put_all f i.guards) × (j.rest ≡ put_term f i.rest)
 
   only_suits : (s : ℕ) (v : Value) (t : Ty) → slice_get slots s ≡ Some t → HasType defs.table v t → Suits defs.table signatures (only s v) slots slots
@@ -228,7 +228,6 @@ module _ (defs : Defs) (signatures : Signatures) (typed : AreTyped defs signatur
       → ((v : Value) → AreGuards defs.table signatures slots (put_in p.0 v i).guards
           → fix_all defs n (less p.0 loose) (put_in p.0 v i) ≡ fixed j → Settled (less p.0 loose) (put_in p.0 v i) j)
       → fix_value r (λ v. fix_all defs n (less p.0 loose) (put_in p.0 v i)) ≡ fixed j → Settled loose i j
-  unfolding Settled
   settled_value n loose i j p l t h (bad f) k g go e = cc
   settled_value n loose i j p l t h (got v m) k g go e =
       let suits : Suits defs.table signatures (only p.0 v) slots slots = only_suits p.0 v t h k in
@@ -245,7 +244,7 @@ module _ (defs : Defs) (signatures : Signatures) (typed : AreTyped defs signatur
       settled_value n loose i j p h.0 h.1 h.2 (run defs height_limit p.1 0) (run_well defs signatures typed height_limit p.1 0 h.1 h.3) g (go p.0) e
 
   settled_none : (loose : List ℕ) (i j : Item) → is_loose loose ≡ false → fixed i ≡ fixed j → Settled loose i j
-  unfolding Settled Settles
+  unfolding Settles
   settled_none loose i j l e =
       let q : i ≡ j = same e in
       (slot, (λ k. subst (λ x. PutsAt slot k (has x k)) (sym (none_loose loose l)) refl),
