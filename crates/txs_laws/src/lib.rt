@@ -10,3 +10,6 @@ pub use answers::{atoms_decide, sat_is_true};
 pub use decided::{points_have_cells, sat_is_point, unsat_is_none};
 pub use menus::items_are_steps;
 pub use sets::{closed_is_reached, first_is_after, moved_is_stepped, next_is_after};
+mod items;
+
+pub use items::{items_are_typed, runs_are_typed, steps_are_typed};

@@ -1,0 +1,248 @@
+-- Operators over lists of well typed items: prefix, parallel, enable, disable and interrupt.
+use Rattle.std.specs.Prelude.{Option, Some, None, slice_get}
+use Rattle.std.proofs.Common.{◌≡◌, ◌<◌, ℕ, zero, suc, ◌+◌, Bool, true, false, cond, List, [], ◌∷◌, ◌++◌, map, length, refl, sym, ap, ◌∙◌, subst, arith}
+use Rattle.txs_values.specs.Value.{Ty, Value, Table, HasType, HaveTypes, truth}
+use Rattle.txs_terms.specs.Expr.{Expr, val, slot, equal, Puts, put, put_all, moved, has_slot}
+use Rattle.txs_terms.specs.Eval.{Defs, Run, got, bad, eval, height_limit, run}
+use Rattle.txs_terms.specs.Action.{Channels, Scope, types_on, types_over, arity, union, joins, none_in, from}
+use Rattle.txs_terms.specs.Term.{Name, Position, give, take, Offer, Term, stop, par, enable, disable, interrupt, put_term, fill}
+use Rattle.txs_terms.specs.Rules.{offered, in_order}
+use Rattle.txs_terms.specs.Typed.{Signatures, Of, val_of, slot_of, equal_of, AreTyped, AreGuards, FitPositions, FitOffers, AllBelow, OfTerm}
+use Rattle.txs_terms.specs.Menu.{Kind, on, within, ending, Item, with_slots, gather, fixed_by, fixes, both_lists, all_fixes, prefix_item, width, start, places, size_of, beside, goes_alone, wrapped, alone, left_of, right_of, among, join_on, same_values, join_ends, join_kinds, join, par_items, pass_kind, pass, wrap_kind, disabled, interrupted, back_kind, back_to, too_many, capped, Walk, faulted, walked, wide, then_walk, where_holds, where_some, Verdict, holds, fails, faults, eval_fault, without_slots, judge, prefix_walk}
+use Rattle.txs_laws.specs.Items.{AreItemGuards, IsItem, AreItems}
+use Rattle.txs_laws.proofs.typing.Lists.{same_some}
+use Rattle.txs_laws.proofs.typing.Putting.{Suits, put_typed}
+use Rattle.txs_laws.proofs.typing.Runs.{run_well, EndsWell}
+use Rattle.txs_laws.proofs.typing.Terms.{Carries, carries_more, carries_here, put_term_typed, fill_typed}
+use Rattle.txs_laws.proofs.typing.Channels.{Within, within_left, within_right, within_order, union_below}
+use Rattle.txs_laws.proofs.typing.Slots.{Points, points_channel, points_places, width_types, moved_renames, moved_carries, item_guards_joined, item_guards_put}
+
+module _ (table : Table) (signatures : Signatures) (scope : Scope) where
+  -- ---- lists of items
+
+  pub items_joined : (exit_types : List Ty) (is js : List Item) → AreItems table signatures scope exit_types is → AreItems table signatures scope exit_types js
+      → AreItems table signatures scope exit_types (is ++ js)
+  items_joined exit_types [] js h k = k
+  items_joined exit_types (i ∷ is) js h k = (h.0, items_joined exit_types is js h.1 k)
+
+  abbrev pub IsItemOf : List Ty → Item → Type 0
+  IsItemOf exit_types i = IsItem table signatures scope exit_types i.kind i.guards i.rest
+
+  pub items_map : (es exit_types : List Ty) (f : Item → Item) → ((i : Item) → IsItemOf es i → IsItemOf exit_types (f i)) → (is : List Item)
+      → AreItems table signatures scope es is → AreItems table signatures scope exit_types (map f is)
+  items_map es exit_types f g [] h = tt
+  items_map es exit_types f g (i ∷ is) h = (g i h.0, items_map es exit_types f g is h.1)
+
+  pub items_gather : (es exit_types : List Ty) (f : Item → List Item) → ((i : Item) → IsItemOf es i → AreItems table signatures scope exit_types (f i)) → (is : List Item)
+      → AreItems table signatures scope es is → AreItems table signatures scope exit_types (gather f is)
+  items_gather es exit_types f g [] h = tt
+  items_gather es exit_types f g (i ∷ is) h = items_joined exit_types (f i) (gather f is) (g i h.0) (items_gather es exit_types f g is h.1)
+
+  -- ---- a term beside an item
+
+  abbrev slots_of : Kind → List Ty
+  slots_of (on cs) = types_over scope cs
+  slots_of within = []
+  slots_of (ending vs) = []
+
+  beside_carries : (k : Kind) → Carries table signatures (moved [] (size_of scope k)) [] (slots_of k)
+  beside_carries (on cs) = moved_carries table signatures [] (width scope cs) [] (types_over scope cs) tt (width_types scope cs)
+  beside_carries within = moved_carries table signatures [] 0 [] [] tt refl
+  beside_carries (ending vs) = moved_carries table signatures [] 0 [] [] tt refl
+
+  beside_typed : (exit_types : List Ty) (k : Kind) (t : Term) → OfTerm table signatures scope [] exit_types t → OfTerm table signatures scope (slots_of k) exit_types (beside scope k t)
+  beside_typed exit_types k t h = put_term_typed table signatures t (moved [] (size_of scope k)) scope [] (slots_of k) exit_types (beside_carries k) h
+
+  -- a term with slots of its own
+  beside_more : (ts exit_types : List Ty) (k : Kind) (t : Term) → OfTerm table signatures scope ts exit_types t
+      → OfTerm table signatures scope (slots_of k ++ ts) exit_types (beside scope k t)
+  beside_more ts exit_types k t h =
+      put_term_typed table signatures t (moved [] (size_of scope k)) scope ts (slots_of k ++ ts) exit_types
+      (carries_more table signatures (moved [] (size_of scope k)) [] (slots_of k) ts (beside_carries k)) h
+
+  -- ---- parallel
+
+  module _ (gates : Channels) (below : AllBelow (length scope) gates) (exit_types : List Ty) where
+    left_typed : (b : Term) → OfTerm table signatures scope [] exit_types b → (i : Item) → IsItemOf exit_types i
+        → AreItems table signatures scope exit_types (alone gates (left_of scope gates b) i)
+    left_typed b h i k = by i.kind k
+      where
+        if_alone : (cs : Channels) (c : Bool) → IsItem table signatures scope exit_types (on cs) i.guards i.rest
+            → AreItems table signatures scope exit_types (cond c (record { kind = on cs; guards = i.guards; rest = left_of scope gates b (on cs) i.rest } ∷ []) [])
+        if_alone cs true q = ((q.0, q.1, (below, q.2, beside_typed exit_types (on cs) b h)), tt)
+        if_alone cs false q = tt
+
+        by : (k : Kind) → IsItem table signatures scope exit_types k i.guards i.rest
+            → AreItems table signatures scope exit_types (cond (goes_alone gates k) (record { kind = k; guards = i.guards; rest = left_of scope gates b k i.rest } ∷ []) [])
+        by (on cs) q = if_alone cs (none_in gates cs) q
+        by within q = ((q.0, (below, q.1, beside_typed exit_types within b h)), tt)
+        by (ending vs) q = tt
+
+    right_typed : (a : Term) → OfTerm table signatures scope [] exit_types a → (i : Item) → IsItemOf exit_types i
+        → AreItems table signatures scope exit_types (alone gates (right_of scope gates a) i)
+    right_typed a h i k = by i.kind k
+      where
+        if_alone : (cs : Channels) (c : Bool) → IsItem table signatures scope exit_types (on cs) i.guards i.rest
+            → AreItems table signatures scope exit_types (cond c (record { kind = on cs; guards = i.guards; rest = right_of scope gates a (on cs) i.rest } ∷ []) [])
+        if_alone cs true q = ((q.0, q.1, (below, beside_typed exit_types (on cs) a h, q.2)), tt)
+        if_alone cs false q = tt
+
+        by : (k : Kind) → IsItem table signatures scope exit_types k i.guards i.rest
+            → AreItems table signatures scope exit_types (cond (goes_alone gates k) (record { kind = k; guards = i.guards; rest = right_of scope gates a k i.rest } ∷ []) [])
+        by (on cs) q = if_alone cs (none_in gates cs) q
+        by within q = ((q.0, (below, beside_typed exit_types within a h, q.1)), tt)
+        by (ending vs) q = tt
+
+    among_carries : (all cs : Channels) → Within cs all → Carries table signatures (among scope all cs) (types_over scope cs) (types_over scope all)
+    among_carries all cs h =
+        moved_carries table signatures (places scope all cs) (width scope all) (types_over scope cs) (types_over scope all) (points_places scope all cs h) (width_types scope all)
+
+    among_guards : (all cs : Channels) → Within cs all → (gs : List Expr) → AreItemGuards table signatures (types_over scope cs) gs
+        → AreItemGuards table signatures (types_over scope all) (put_all (among scope all cs) gs)
+    among_guards all cs h gs k =
+        item_guards_put table signatures (among scope all cs) (types_over scope cs) (types_over scope all) (moved_renames (places scope all cs) (width scope all))
+        (carries_here table signatures (among scope all cs) (types_over scope cs) (types_over scope all) (among_carries all cs h)) gs k
+
+    among_term : (all cs : Channels) → Within cs all → (t : Term) → OfTerm table signatures scope (types_over scope cs) exit_types t
+        → OfTerm table signatures scope (types_over scope all) exit_types (put_term (among scope all cs) t)
+    among_term all cs h t k = put_term_typed table signatures t (among scope all cs) scope (types_over scope cs) (types_over scope all) exit_types (among_carries all cs h) k
+
+    both_typed : (xs ys : Channels) (i j : Item) → IsItem table signatures scope exit_types (on xs) i.guards i.rest → IsItem table signatures scope exit_types (on ys) j.guards j.rest
+        → IsItemOf exit_types (join_on scope gates (union xs ys) xs ys i j)
+    both_typed xs ys i j h k =
+        let l = within_left xs ys in let r = within_right xs ys in
+        (union_below (length scope) xs ys h.0 k.0,
+        item_guards_joined table signatures (types_over scope (union xs ys)) (put_all (among scope (union xs ys) xs) i.guards) (put_all (among scope (union xs ys) ys) j.guards)
+        (among_guards (union xs ys) xs l i.guards h.1) (among_guards (union xs ys) ys r j.guards k.1),
+        (below, among_term (union xs ys) xs l i.rest h.2, among_term (union xs ys) ys r j.rest k.2))
+
+    if_joined : (c : Bool) (i : Item) → IsItemOf exit_types i → AreItems table signatures scope exit_types (cond c (i ∷ []) [])
+    if_joined true i h = (h, tt)
+    if_joined false i h = tt
+
+    no_more : (gs hs : List Expr) → gs ≡ [] → hs ≡ [] → gs ++ hs ≡ []
+    no_more gs hs e f = ap (λ l. l ++ hs) e ∙ f
+
+    kinds_typed : (k l : Kind) (i j : Item) → IsItem table signatures scope exit_types k i.guards i.rest → IsItem table signatures scope exit_types l j.guards j.rest
+        → AreItems table signatures scope exit_types (join_kinds scope gates k l i j)
+    kinds_typed (on xs) (on ys) i j h k = if_joined (joins gates xs ys) (join_on scope gates (union xs ys) xs ys i j) (both_typed xs ys i j h k)
+    kinds_typed (on xs) within i j h k = tt
+    kinds_typed (on xs) (ending ws) i j h k = tt
+    kinds_typed within l i j h k = tt
+    kinds_typed (ending vs) (on ys) i j h k = tt
+    kinds_typed (ending vs) within i j h k = tt
+    kinds_typed (ending vs) (ending ws) i j h k = if_joined (same_values vs ws) (join_ends vs i j) (no_more i.guards j.guards h.0 k.0, h.1, tt)
+
+    pub par_typed : (a b : Term) (is js : List Item) → OfTerm table signatures scope [] exit_types a → OfTerm table signatures scope [] exit_types b
+        → AreItems table signatures scope exit_types is → AreItems table signatures scope exit_types js → AreItems table signatures scope exit_types (par_items scope gates a b is js)
+    par_typed a b is js h k p q =
+        let first = items_gather exit_types exit_types (alone gates (left_of scope gates b)) (left_typed b k) is p in
+        let second = items_gather exit_types exit_types (alone gates (right_of scope gates a)) (right_typed a h) js q in
+        let third = items_gather exit_types exit_types (λ i. gather (join scope gates i) js)
+        (λ i g. items_gather exit_types exit_types (join scope gates i) (λ j f. kinds_typed i.kind j.kind i j g f) js q) is p in
+        items_joined exit_types (gather (alone gates (left_of scope gates b)) is)
+        (gather (alone gates (right_of scope gates a)) js ++ gather (λ i. gather (join scope gates i) js) is) first
+        (items_joined exit_types (gather (alone gates (right_of scope gates a)) js) (gather (λ i. gather (join scope gates i) js) is) second third)
+
+  -- ---- enable, disable and interrupt
+
+  pub pass_typed : (ts exit_types : List Ty) (xs : List Name) (b : Term) → length xs ≡ length ts → OfTerm table signatures scope ts exit_types b
+      → (i : Item) → IsItemOf ts i → IsItemOf exit_types (pass scope xs b i)
+  pass_typed ts exit_types xs b l h i k = by i.kind k
+    where
+      by : (c : Kind) → IsItem table signatures scope ts c i.guards i.rest → IsItemOf exit_types (pass_kind scope xs b c i)
+      by (on cs) q = (q.0, q.1, (ts, l, q.2, beside_more ts exit_types (on cs) b h))
+      by within q = (q.0, (ts, l, q.1, beside_more ts exit_types within b h))
+      by (ending vs) q = (q.0, fill_typed table signatures scope ts exit_types vs b q.1 h)
+
+  pub disabled_typed : (exit_types : List Ty) (b : Term) → OfTerm table signatures scope [] exit_types b → (i : Item) → IsItemOf exit_types i
+      → IsItemOf exit_types (disabled scope b i)
+  disabled_typed exit_types b h i k = by i.kind k
+    where
+      by : (c : Kind) → IsItem table signatures scope exit_types c i.guards i.rest → IsItemOf exit_types (wrap_kind scope (λ t. disable t (beside scope c b)) c i)
+      by (on cs) q = (q.0, q.1, (q.2, beside_typed exit_types (on cs) b h))
+      by within q = (q.0, (q.1, beside_typed exit_types within b h))
+      by (ending vs) q = (q.0, q.1, tt)
+
+  pub interrupted_typed : (exit_types : List Ty) (b : Term) → OfTerm table signatures scope [] [] b → (i : Item) → IsItemOf exit_types i
+      → IsItemOf exit_types (interrupted scope b i)
+  interrupted_typed exit_types b h i k = by i.kind k
+    where
+      by : (c : Kind) → IsItem table signatures scope exit_types c i.guards i.rest → IsItemOf exit_types (wrap_kind scope (λ t. interrupt t (beside scope c b)) c i)
+      by (on cs) q = (q.0, q.1, (q.2, beside_typed [] (on cs) b h))
+      by within q = (q.0, (q.1, beside_typed [] within b h))
+      by (ending vs) q = (q.0, q.1, tt)
+
+  pub back_typed : (exit_types : List Ty) (t : Term) → OfTerm table signatures scope [] exit_types t → (i : Item) → IsItemOf [] i
+      → IsItemOf exit_types (back_to scope t i)
+  back_typed exit_types t h i k = by i.kind k
+    where
+      by : (c : Kind) → IsItem table signatures scope [] c i.guards i.rest → IsItemOf exit_types (back_kind scope t c i)
+      by (on cs) q = (q.0, q.1, ([], refl, q.2, beside_more [] exit_types (on cs) t h))
+      by within q = (q.0, ([], refl, q.1, beside_more [] exit_types within t h))
+      by (ending vs) q = (q.0, h)
+
+  -- ---- prefix
+
+  pub with_slots_typed : (slots : List Ty) (gs : List Expr) → AreGuards table signatures slots gs → AreItemGuards table signatures slots (with_slots gs)
+  with_slots_typed slots [] h = tt
+  with_slots_typed slots (g ∷ gs) h = by (has_slot g) refl (with_slots_typed slots gs h.1)
+    where
+      by : (b : Bool) → has_slot g ≡ b → AreItemGuards table signatures slots (with_slots gs) → AreItemGuards table signatures slots (cond b (g ∷ with_slots gs) (with_slots gs))
+      by true e r = (h.0, e, r)
+      by false e r = r
+
+module _ (defs : Defs) (signatures : Signatures) (typed : AreTyped defs signatures) (scope : Scope) where
+  abbrev IfGuards : List Ty → Option (List Expr) → Type 0
+  IfGuards slots None = Unit {0}
+  IfGuards slots (Some gs) = AreItemGuards defs.table signatures slots gs
+
+  fixed_typed : (slots : List Ty) (i : ℕ) (t : Ty) (r : Run) (o : Option (List Expr)) → slice_get slots i ≡ Some t → EndsWell defs.table t r → IfGuards slots o
+      → IfGuards slots (fixed_by i r o)
+  fixed_typed slots i t (bad f) o e h k = tt
+  fixed_typed slots i t (got v n) None e h k = tt
+  fixed_typed slots i t (got v n) (Some gs) e h k = (equal_of (slot_of e) (val_of h), refl, k)
+
+  fixes_typed : (slots : List Ty) (ps : List Position) (ts : List Ty) (i : ℕ) → FitPositions defs.table signatures [] ps ts → Points slots (from i (length ts)) ts
+      → IfGuards slots (fixes defs i ps)
+  fixes_typed slots [] ts i h p = tt
+  fixes_typed slots (give e ∷ ps) [] i h p = absurd h
+  fixes_typed slots (take x ∷ ps) [] i h p = absurd h
+  fixes_typed slots (give e ∷ ps) (t ∷ ts) i h p =
+      fixed_typed slots i t (run defs height_limit e 0) (fixes defs (suc i) ps) p.0 (run_well defs signatures typed height_limit e 0 t h.0) (fixes_typed slots ps ts (suc i) h.1 p.1)
+  fixes_typed slots (take x ∷ ps) (t ∷ ts) i h p = fixes_typed slots ps ts (suc i) h p.1
+
+  both_guards : (slots : List Ty) (o q : Option (List Expr)) → IfGuards slots o → IfGuards slots q → IfGuards slots (both_lists o q)
+  both_guards slots None q h k = tt
+  both_guards slots (Some gs) None h k = tt
+  both_guards slots (Some gs) (Some hs) h k = item_guards_joined defs.table signatures slots gs hs h k
+
+  all_fixes_typed : (cs : Channels) (os : List Offer) → FitOffers defs.table signatures scope [] os → Within (offered os) cs
+      → IfGuards (types_over scope cs) (all_fixes defs scope cs os)
+  all_fixes_typed cs [] h w = tt
+  all_fixes_typed cs (o ∷ os) h w =
+      both_guards (types_over scope cs) (fixes defs (start scope cs o.channel) o.positions) (all_fixes defs scope cs os)
+      (fixes_typed (types_over scope cs) o.positions (types_on scope o.channel) (start scope cs o.channel) h.1 (points_channel scope cs o.channel w.0))
+      (all_fixes_typed cs os h.2 w.1)
+
+  all_below : (os : List Offer) → FitOffers defs.table signatures scope [] os → AllBelow (length scope) (offered os)
+  all_below [] h = tt
+  all_below (o ∷ os) h = (h.0, all_below os h.2)
+
+  pub prefix_typed : (exit_types : List Ty) (os : List Offer) (gs : List Expr) (t : Term) (fixed : List Expr) → FitOffers defs.table signatures scope [] os
+      → AreGuards defs.table signatures (types_over scope (offered os)) gs → OfTerm defs.table signatures scope (types_over scope (offered os)) exit_types t
+      → all_fixes defs scope (in_order (offered os)) os ≡ Some fixed
+      → IsItemOf defs.table signatures scope exit_types (prefix_item scope (in_order (offered os)) (places scope (in_order (offered os)) (offered os)) fixed gs t)
+  prefix_typed exit_types os gs t fixed h g k e =
+      let cs : Channels = in_order (offered os) in
+      let w : Within (offered os) cs = within_order (offered os) in
+      let from_slots : List Ty = types_over scope (offered os) in
+      let to_slots : List Ty = types_over scope cs in
+      let f : Puts = moved (places scope cs (offered os)) (width scope cs) in
+      let c : Carries defs.table signatures f from_slots to_slots =
+      moved_carries defs.table signatures (places scope cs (offered os)) (width scope cs) from_slots to_slots (points_places scope cs (offered os) w) (width_types scope cs) in
+      (union_below (length scope) (offered os) [] (all_below os h) tt,
+      item_guards_joined defs.table signatures to_slots fixed (put_all f (with_slots gs)) (subst (IfGuards to_slots) e (all_fixes_typed cs os h w))
+      (item_guards_put defs.table signatures f from_slots to_slots (moved_renames (places scope cs (offered os)) (width scope cs))
+      (carries_here defs.table signatures f from_slots to_slots c) (with_slots gs) (with_slots_typed defs.table signatures scope from_slots gs g)),
+      put_term_typed defs.table signatures t f scope from_slots to_slots exit_types c k)
