@@ -1,2 +1,3 @@
 pub mod typing
 pub mod under
+pub mod instances
