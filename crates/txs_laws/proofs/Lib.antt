@@ -1,3 +1,4 @@
 pub mod typing
 pub mod under
 pub mod instances
+pub mod bounded
