@@ -1,5 +1,5 @@
 -- The calls of a term and its longest path stay as they are when values and other channels are put in.
-use Rattle.std.proofs.Common.{◌≡◌, ◌<◌, ℕ, ◌+◌, max, List, [], ◌∷◌, ◌++◌, refl, ap, ◌∙◌, arith}
+use Rattle.std.proofs.Common.{◌≡◌, ◌<◌, ℕ, ◌+◌, List, [], ◌∷◌, ◌++◌, refl, ap, ◌∙◌, arith}
 use Rattle.txs_values.specs.Value.{Value}
 use Rattle.txs_terms.specs.Expr.{Puts, filled}
 use Rattle.txs_terms.specs.Action.{Channels}

@@ -1,5 +1,5 @@
 -- A term whose paths are short has the same menu, however many nodes more a path may have.
-use Rattle.std.proofs.Common.{◌≡◌, ◌<◌, ◌≤◌, ℕ, zero, suc, ◌+◌, ◌*◌, max, ltb, cond, length, List, [], ◌∷◌, ◌++◌, Option, Some, None, slice_get, map, refl, sym, ap, subst, ◌∙◌, arith, mul-le-mul_right, suc-add, zero-add}
+use Rattle.std.proofs.Common.{◌≡◌, ◌<◌, ◌≤◌, ℕ, zero, suc, ◌+◌, ◌*◌, max, ltb, cond, length, List, [], ◌++◌, Option, Some, None, slice_get, map, refl, sym, ap, subst, ◌∙◌, arith, mul-le-mul_right, suc-add}
 use Rattle.txs_values.specs.Value.{Value}
 use Rattle.txs_terms.specs.Action.{Scope}
 use Rattle.txs_terms.specs.Term.{Term, stop, exits, prefix, step, guard, choice, par, enable, disable, interrupt, hide, call, bind, machine, hit, miss, fill, instance, channels_bound}

@@ -1,12 +1,10 @@
 -- The menus of calls and of automata.
-use Rattle.std.proofs.Common.{◌≡◌, ℕ, List, [], ◌∷◌, refl}
-use Rattle.std.specs.Prelude.{pos}
-use Rattle.txs_values.specs.Value.{num}
+use Rattle.std.proofs.Common.{◌≡◌, [], ◌∷◌, refl}
 use Rattle.txs_terms.specs.Expr.{slot, two, plus, more_than}
 use Rattle.txs_terms.specs.Term.{Term, give, take, stop, hide, call, machine, par, Automaton, offering, silent}
 use Rattle.txs_terms.specs.Rules.{Model}
-use Rattle.txs_terms.specs.Menu.{on, within, faulted, eval_fault, wide, walked, walk}
-use Rattle.txs_laws.proofs.examples.Words.{limits, processes, int, pair, number, broken_number, not_so, is_number, x, offer, sends, sends_of, takes, quietly, item}
+use Rattle.txs_terms.specs.Menu.{on, within, faulted, eval_fault, walked, walk}
+use Rattle.txs_laws.proofs.examples.Words.{limits, processes, int, pair, number, broken_number, not_so, is_number, x, offer, sends, sends_of, takes, item}
 
 -- PROCDEF Count [F :: Int] (n :: Int) ::= F ! n >-> Count [F] (n + 1) ENDDEF
 abbrev count : Term
@@ -59,9 +57,9 @@ abbrev sums : Automaton
 sums = record {
   formals = 0 ∷ 1 ∷ [];
   states =
-    (offering (offer 0 (take x ∷ []) ∷ []) (two more_than (slot 2) (slot 0) ∷ []) (slot 1 ∷ two plus (slot 0) (slot 2) ∷ []) 1
-    ∷ silent [] (slot 1 ∷ slot 0 ∷ []) 0 ∷ silent (not_so ∷ []) (slot 0 ∷ slot 1 ∷ []) 1 ∷ [])
-    ∷ (offering (offer 1 (give (slot 0) ∷ []) ∷ []) [] (slot 0 ∷ slot 1 ∷ []) 0 ∷ []) ∷ [];
+      (offering (offer 0 (take x ∷ []) ∷ []) (two more_than (slot 2) (slot 0) ∷ []) (slot 1 ∷ two plus (slot 0) (slot 2) ∷ []) 1
+      ∷ silent [] (slot 1 ∷ slot 0 ∷ []) 0 ∷ silent (not_so ∷ []) (slot 0 ∷ slot 1 ∷ []) 1 ∷ [])
+      ∷ (offering (offer 1 (give (slot 0) ∷ []) ∷ []) [] (slot 0 ∷ slot 1 ∷ []) 0 ∷ []) ∷ [];
 }
 
 abbrev machines : Model

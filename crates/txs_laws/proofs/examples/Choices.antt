@@ -1,7 +1,7 @@
 -- The menus of guards, choices and LET.
-use Rattle.std.proofs.Common.{◌≡◌, List, [], ◌∷◌, refl}
+use Rattle.std.proofs.Common.{◌≡◌, [], ◌∷◌, refl}
 use Rattle.txs_terms.specs.Expr.{slot, two, plus}
-use Rattle.txs_terms.specs.Term.{Term, stop, exits, guard, choice, bind, hide, hit, miss}
+use Rattle.txs_terms.specs.Term.{stop, exits, guard, choice, bind, hide, hit, miss}
 use Rattle.txs_terms.specs.Menu.{on, within, faulted, eval_fault, unfixed, wide, walked, walk}
 use Rattle.txs_laws.proofs.examples.Words.{limits, nothing, int, pair, number, broken_number, is_so, not_so, faulty, is_number, x, y, sends, sends_of, takes, quietly, item}
 

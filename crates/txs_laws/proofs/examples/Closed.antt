@@ -1,9 +1,9 @@
 -- Sets that are closed under internal steps.
-use Rattle.std.proofs.Common.{◌≡◌, ◌⊎◌, inl, inr, List, [], ◌∷◌, refl, sym, ap, ◌∙◌}
+use Rattle.std.proofs.Common.{◌≡◌, inl, inr, List, [], ◌∷◌, refl, sym, ap, ◌∙◌}
 use Rattle.txs_terms.specs.Expr.{slot}
 use Rattle.txs_terms.specs.Term.{Term, stop, exits, hide, call}
 use Rattle.txs_terms.specs.Rules.{Model}
-use Rattle.txs_terms.specs.Menu.{Item, within, MenuFault, eval_fault, unfixed, faulted, menu}
+use Rattle.txs_terms.specs.Menu.{within, MenuFault, eval_fault, unfixed, faulted, menu}
 use Rattle.txs_terms.specs.Close.{HasFault, Closes, closed, faulty_set, member_faults, done, next}
 use Rattle.txs_laws.proofs.examples.Steps.{Member, member, menus_nodes, targets_of, new, longer}
 use Rattle.txs_laws.proofs.examples.Words.{limits, nothing, processes, int, pair, broken_number, sends_of, takes, quietly, item}

@@ -1,8 +1,8 @@
 -- A communication inside a HIDE, and exits that do not meet, on the channels In and Out; H is the third channel.
-use Rattle.std.proofs.Common.{◌≡◌, ◌⊎◌, inl, inr, List, [], ◌∷◌, Some, refl}
+use Rattle.std.proofs.Common.{◌≡◌, inl, inr, List, [], ◌∷◌, Some, refl}
 use Rattle.txs_terms.specs.Expr.{slot}
 use Rattle.txs_terms.specs.Term.{Term, stop, exits, choice, par, enable, hide}
-use Rattle.txs_terms.specs.Menu.{Item, on, within, menu, walked}
+use Rattle.txs_terms.specs.Menu.{on, within, menu, walked}
 use Rattle.txs_terms.specs.Close.{Closes, closed, done, next, MovesTo, moves_to}
 use Rattle.txs_laws.proofs.examples.Steps.{Member, member, menus_nodes, AreMembers, targets_of, moves_of, new, longer}
 use Rattle.txs_laws.proofs.examples.Words.{limits, nothing, int, pair, number, is_number, x, sends, sends_of, takes, item, does}

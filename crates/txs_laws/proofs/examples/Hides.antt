@@ -1,5 +1,5 @@
 -- The menus of HIDE. Out is the first channel in scope, and the first channel that a HIDE binds is the next number.
-use Rattle.std.proofs.Common.{◌≡◌, ℕ, List, [], ◌∷◌, refl}
+use Rattle.std.proofs.Common.{◌≡◌, List, [], ◌∷◌, refl}
 use Rattle.std.specs.Prelude.{pos}
 use Rattle.txs_values.specs.Value.{whole, num}
 use Rattle.txs_terms.specs.Expr.{Expr, slot, equal, two, plus, minus, divide, more_than}

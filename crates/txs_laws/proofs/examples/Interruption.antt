@@ -1,7 +1,7 @@
 -- A behaviour that is interrupted and goes on, on the channels In and Out.
-use Rattle.std.proofs.Common.{◌≡◌, ◌⊎◌, inl, inr, List, [], ◌∷◌, Some, refl}
+use Rattle.std.proofs.Common.{inl, inr, [], ◌∷◌, Some, refl}
 use Rattle.txs_terms.specs.Term.{Term, stop, exits, enable, interrupt}
-use Rattle.txs_terms.specs.Menu.{on, within, menu, walked}
+use Rattle.txs_terms.specs.Menu.{on, within}
 use Rattle.txs_terms.specs.Close.{Closes, closed, done, next, MovesTo, moves_to}
 use Rattle.txs_laws.proofs.examples.Steps.{Member, member, menus_nodes, AreMembers, targets_of, moves_of, new, longer}
 use Rattle.txs_laws.proofs.examples.Words.{limits, nothing, pair, is_number, sends, takes, item, does}

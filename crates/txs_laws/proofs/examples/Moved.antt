@@ -1,5 +1,5 @@
 -- Sets that an action moves, on the channels In and Out.
-use Rattle.std.proofs.Common.{◌≡◌, ◌⊎◌, inl, inr, List, [], ◌∷◌, Some, None, refl}
+use Rattle.std.proofs.Common.{inl, inr, List, [], ◌∷◌, Some, None, refl}
 use Rattle.txs_terms.specs.Expr.{slot, two, divide, more_than}
 use Rattle.txs_terms.specs.Term.{Term, take, stop, prefix}
 use Rattle.txs_terms.specs.Menu.{on}

@@ -1,5 +1,5 @@
 -- The menus of parallel behaviours.
-use Rattle.std.proofs.Common.{◌≡◌, List, [], ◌∷◌, refl}
+use Rattle.std.proofs.Common.{◌≡◌, [], ◌∷◌, refl}
 use Rattle.std.specs.Prelude.{pos}
 use Rattle.txs_values.specs.Value.{num}
 use Rattle.txs_terms.specs.Expr.{slot, two, more_than}

@@ -2,7 +2,7 @@
 use Rattle.std.proofs.Common.{◌≡◌, List, [], ◌∷◌, refl}
 use Rattle.std.specs.Prelude.{pos}
 use Rattle.txs_values.specs.Value.{whole, num}
-use Rattle.txs_terms.specs.Expr.{Expr, slot, equal, two, plus, less_than, more_than}
+use Rattle.txs_terms.specs.Expr.{Expr, slot, two, plus, less_than, more_than}
 use Rattle.txs_terms.specs.Action.{Scope}
 use Rattle.txs_terms.specs.Term.{Term, give, take, stop, exits, prefix, step}
 use Rattle.txs_terms.specs.Menu.{on, within, ending, faulted, eval_fault, walked, walk}

@@ -1,10 +1,10 @@
 -- Two hidden channels of one name are different ones. In and Out are the channels in scope; the behaviour's H is the
 -- third channel, and the H of the process is the fourth.
-use Rattle.std.proofs.Common.{◌≡◌, ◌⊎◌, inl, inr, List, [], ◌∷◌, Some, refl}
+use Rattle.std.proofs.Common.{inl, inr, List, [], ◌∷◌, Some, refl}
 use Rattle.txs_terms.specs.Expr.{slot}
 use Rattle.txs_terms.specs.Term.{Term, stop, par, hide, call}
 use Rattle.txs_terms.specs.Rules.{Model}
-use Rattle.txs_terms.specs.Menu.{on, within, menu, walked}
+use Rattle.txs_terms.specs.Menu.{on, within}
 use Rattle.txs_terms.specs.Close.{Closes, closed, done, next, MovesTo, moves_to}
 use Rattle.txs_laws.proofs.examples.Steps.{Member, member, menus_nodes, AreMembers, targets_of, moves_of, new, longer}
 use Rattle.txs_laws.proofs.examples.Words.{limits, processes, int, pair, is_number, sends, sends_of, takes, item, does}

@@ -1,11 +1,11 @@
 -- The menus of enable, disable and interrupt.
-use Rattle.std.proofs.Common.{◌≡◌, List, [], ◌∷◌, refl}
+use Rattle.std.proofs.Common.{◌≡◌, [], ◌∷◌, refl}
 use Rattle.std.specs.Prelude.{pos}
 use Rattle.txs_values.specs.Value.{num}
 use Rattle.txs_terms.specs.Expr.{slot, two, plus}
-use Rattle.txs_terms.specs.Term.{Term, stop, exits, choice, enable, disable, interrupt}
+use Rattle.txs_terms.specs.Term.{stop, exits, enable, disable, interrupt}
 use Rattle.txs_terms.specs.Menu.{on, within, ending, walked, walk}
-use Rattle.txs_laws.proofs.examples.Words.{limits, nothing, pair, number, is_number, x, y, sends, sends_of, takes, quietly, item}
+use Rattle.txs_laws.proofs.examples.Words.{limits, nothing, pair, number, is_number, y, sends, sends_of, takes, quietly, item}
 
 -- A ? x >-> EXIT ! x + 1 >>> ACCEPT ? y IN B ! y >-> STOP NI: beside an item of one slot y is the second
 enable_acts : walk nothing 10 pair (enable (takes 0 (exits (two plus (slot 0) (number 1) ∷ []))) (y ∷ []) (sends_of 1 (slot 0) stop)) 0

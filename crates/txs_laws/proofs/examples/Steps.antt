@@ -1,5 +1,5 @@
 -- What the examples of sets are made with: members with their menus, and how a term is told from others.
-use Rattle.std.proofs.Common.{◌≡◌, ◌≢◌, ℕ, ◌+◌, ◌*◌, ◌⊎◌, inl, inr, Bool, true, false, eqb, eq-eqb, true≢false, List, [], ◌∷◌, ◌++◌, length, Option, Some, refl, sym, ap, ◌∙◌}
+use Rattle.std.proofs.Common.{◌≡◌, ◌≢◌, ℕ, ◌+◌, ◌*◌, inl, inr, Bool, true, false, eqb, eq-eqb, true≢false, List, [], ◌∷◌, ◌++◌, length, Option, Some, refl, sym, ap, ◌∙◌}
 use Rattle.std.specs.Prelude.{pos, ◌&&◌, not}
 use Rattle.txs_values.specs.Value.{num}
 use Rattle.txs_terms.specs.Expr.{Expr, val}

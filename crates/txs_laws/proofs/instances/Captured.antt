@@ -1,11 +1,11 @@
 -- The actual channels stand for the formal ones, and the channels of the body's HIDEs above all that are in scope.
 use Rattle.std.proofs.Common.{◌≡◌, ℕ, zero, suc, ◌+◌, ◌-◌, ◌<◌, ◌≤◌, Bool, true, false, not, cond, ltb, List, [], ◌∷◌, map, length, slice_index, refl, sym, ap, ◌∙◌, arith, subst, true≢false, ltb-true, ltb-false, lt-ltb, le-ltb}
-use Rattle.txs_values.specs.Value.{Ty, Value, Table}
+use Rattle.txs_values.specs.Value.{Value}
 use Rattle.txs_terms.specs.Action.{Channels, kept, Scope}
-use Rattle.txs_terms.specs.Term.{Term, fill, channel_at, with_channels, instance}
+use Rattle.txs_terms.specs.Term.{Term, channel_at, with_channels, instance}
 use Rattle.txs_terms.specs.Expr.{filled}
-use Rattle.txs_terms.specs.Typed.{FitChannels, Signatures, ProcessSignature}
-use Rattle.txs_laws.specs.Channels.{names_in, free_in, bound_in, NoChannelIsCaptured}
+use Rattle.txs_terms.specs.Typed.{FitChannels}
+use Rattle.txs_laws.specs.Channels.{names_in, NoChannelIsCaptured}
 use Rattle.txs_laws.proofs.instances.Names.{names_put, names_with}
 
 -- a formal channel is the actual one, which is in scope
@@ -66,7 +66,8 @@ names_of_instance cs vs depth body = names_put (filled vs) (with_channels (chann
 pub no_channel_is_captured : NoChannelIsCaptured
 no_channel_is_captured table signatures s exit_types scope cs vs body typed fit =
     let names = names_of_instance cs vs (length scope) body in
-    let f = channel_at cs (length scope) in
-    (ap (kept (λ c. ltb c (length scope))) names ∙ kept_map (λ c. ltb c (length scope)) (λ c. ltb c (length s.formals)) f (slice_index cs) (names_in body) (free_at scope s.formals cs fit),
-    ap (kept (λ c. not (ltb c (length scope)))) names
-    ∙ kept_map (λ c. not (ltb c (length scope))) (λ c. not (ltb c (length s.formals))) f (λ c. (c - length s.formals) + length scope) (names_in body) (hidden_at scope s.formals cs fit))
+    let f = channel_at cs (length scope) in (
+      ap (kept (λ c. ltb c (length scope))) names ∙ kept_map (λ c. ltb c (length scope)) (λ c. ltb c (length s.formals)) f (slice_index cs) (names_in body) (free_at scope s.formals cs fit),
+      ap (kept (λ c. not (ltb c (length scope)))) names
+          ∙ kept_map (λ c. not (ltb c (length scope))) (λ c. not (ltb c (length s.formals))) f (λ c. (c - length s.formals) + length scope) (names_in body) (hidden_at scope s.formals cs fit),
+    )

@@ -1,6 +1,5 @@
 -- The channels that a body names, once values and other channels stand in it.
 use Rattle.std.proofs.Common.{◌≡◌, ℕ, List, [], ◌∷◌, ◌++◌, map, refl, ap}
-use Rattle.txs_values.specs.Value.{Value}
 use Rattle.txs_terms.specs.Expr.{Puts}
 use Rattle.txs_terms.specs.Action.{Channels}
 use Rattle.txs_terms.specs.Term.{Offer, Term, stop, exits, prefix, step, guard, choice, par, enable, disable, interrupt, hide, call, bind, machine, hit, miss, put_offer, put_term, offer_at, with_channels}

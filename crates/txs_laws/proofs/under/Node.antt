@@ -1,8 +1,8 @@
 -- One node of an evaluation with the values put in, and one under the values; and so the whole evaluation.
-use Rattle.std.proofs.Common.{◌≡◌, ℕ, zero, suc, ltb, List, [], ◌∷◌, ◌++◌, Option, Some, None, slice_get, cond, refl, sym, ap, ◌∙◌}
-use Rattle.txs_values.specs.Value.{Value, num, bool, text, cons, packed}
+use Rattle.std.proofs.Common.{◌≡◌, ℕ, zero, suc, ltb, List, [], ◌∷◌, ◌++◌, Option, slice_get, cond, refl, sym, ap, ◌∙◌}
+use Rattle.txs_values.specs.Value.{Value, cons, packed}
 use Rattle.txs_terms.specs.Expr.{Expr, val, slot, local, constant, one, two, equal, both, either, choose, apply, build, let_in, Exprs, none, more, put, with_local, filled}
-use Rattle.txs_terms.specs.Eval.{Defs, Eval, Run, got, bad, wrong, long, Runs, gots, bads, node_limit, then_run, then_runs, with_first, cons_run, each, if_true, body_run, node, run, unary, binary, after, sized}
+use Rattle.txs_terms.specs.Eval.{Defs, Eval, Run, bad, long, Runs, node_limit, then_run, then_runs, cons_run, each, if_true, body_run, node, run, unary, binary, after, sized}
 use Rattle.txs_terms.specs.Under.{Environment, Under, looked_up, each_under, operands, parameters, node_under, run_under}
 use Rattle.txs_laws.specs.Filling.{FilledIsUnder}
 use Rattle.txs_laws.proofs.under.Seen.{local_under, seen, each_seen, seen_filled, seen_bare, local_seen}
