@@ -13,3 +13,10 @@ pub use sets::{closed_is_reached, first_is_after, moved_is_stepped, next_is_afte
 mod items;
 
 pub use items::{items_are_typed, runs_are_typed, steps_are_typed};
+mod channels;
+mod filling;
+mod paths;
+
+pub use channels::no_channel_is_captured;
+pub use filling::filled_is_under;
+pub use paths::paths_are_bounded;
