@@ -1,1 +1,2 @@
 pub mod typing
+pub mod spellings
