@@ -96,17 +96,28 @@ placed-from n j (t ∷ ts) c p h =
 same_fields : {j k : ℕ} {a b : List ℕ} {fs gs : List Field} → ◌≡◌ {A = Option Place} (Some (record { ty = j; constructor = record { name = a; fields = fs } })) (Some (record { ty = k; constructor = record { name = b; fields = gs } })) → fs ≡ gs
 same_fields e = ap (λ (p : Place). p.constructor.fields) (same_some e)
 
+-- what is found by the name has the number and the fields, as no two are called the same
+found-same : (table : Table) → IsNamed table → (c k : ℕ) (name : List ℕ) (fs : List Field) (m : Made)
+    → place_of table c ≡ Some (record { ty = k; constructor = record { name = name; fields = fs } })
+    → place_of table m.number ≡ Some (record { ty = k; constructor = record { name = name; fields = m.fields } })
+    → (m.number ≡ c) × (m.fields ≡ fs)
+found-same table named c k name fs m h q =
+    let s : m.number ≡ c = named.distinct m.number c (record { ty = k; constructor = record { name = name; fields = m.fields } }) (record { ty = k; constructor = record { name = name; fields = fs } }) q h refl in
+    (s, same_fields (sym q ∙ ap (place_of table) s ∙ h))
+
+same_made : (m : Made) (c : ℕ) (fs : List Field) → m.number ≡ c → m.fields ≡ fs → m ≡ record { number = c; fields = fs }
+same_made m c fs e h = ap (λ i. record { number = i; fields = m.fields }) e ∙ ap (λ (l : List Field). record { number = c; fields = l }) h
+
 pub placed-made : (table : Table) → IsNamed table → (c k : ℕ) (name : List ℕ) (fs : List Field)
     → place_of table c ≡ Some (record { ty = k; constructor = record { name = name; fields = fs } })
     → made_from 0 table k name ≡ Some (record { number = c; fields = fs })
 placed-made table named c k name fs h =
-    let p : Place = record { ty = k; constructor = record { name = name; fields = fs } } in
-    let f = placed-from 0 0 table c p h in
-    let d : k ≡ 0 + f.0 = f.1 in
-    let e : f.0 ≡ k = omega (arith, d) in
-    let m : Made = f.2.0 in
-    let g : made_from 0 table k name ≡ Some m = subst (λ i. made_from 0 table i name ≡ Some m) e f.2.1 in
-    let q : place_of table m.number ≡ Some (record { ty = k; constructor = record { name = name; fields = m.fields } }) = made-placed table k name m g in
-    let s : m.number ≡ c = named.distinct m.number c (record { ty = k; constructor = record { name = name; fields = m.fields } }) p q h refl in
-    let u : m.fields ≡ fs = same_fields (sym q ∙ ap (place_of table) s ∙ h) in
-    g ∙ ap (λ i. Some (record { number = i; fields = m.fields })) s ∙ ap (λ (l : List Field). Some (record { number = c; fields = l })) u
+    let f = placed-from 0 0 table c (record { ty = k; constructor = record { name = name; fields = fs } }) h in
+    by f.0 f.1 f.2.0 f.2.1
+  where
+    by : (i : ℕ) → k ≡ 0 + i → (m : Made) → made_from 0 table i name ≡ Some m → made_from 0 table k name ≡ Some (record { number = c; fields = fs })
+    by i d m g =
+        let e : i ≡ k = omega (arith, d) in
+        let u : made_from 0 table k name ≡ Some m = subst (λ j. made_from 0 table j name ≡ Some m) e g in
+        let r = found-same table named c k name fs m h (made-placed table k name m u) in
+        u ∙ ap Some (same_made m c fs r.0 r.1)
