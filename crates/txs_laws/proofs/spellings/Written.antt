@@ -1,6 +1,6 @@
 -- The canonical text of a value of its type is one of its spellings.
-use Rattle.std.proofs.Common.{◌≡◌, ◌≢◌, ℕ, zero, suc, ◌+◌, ◌<◌, ◌^◌, ℤ, pos, negsuc, neg_ℤ, Bool, true, false, cond, eqb, eqb-true, ltb-true, List, [], ◌∷◌, ◌++◌, drop, length, Option, Some, None, codes, refl, sym, ap, ◌∙◌, subst, append-nil, arith}
-use Rattle.std.proofs.lemmas.Bool.{cond-true, cond-false, and_parts, eqb-false}
+use Rattle.std.proofs.Common.{◌≡◌, ◌≢◌, ℕ, zero, suc, ◌+◌, ◌<◌, ◌^◌, ℤ, pos, negsuc, neg_ℤ, Bool, true, false, cond, ◌||◌, eqb, eqb-true, ltb-true, List, [], ◌∷◌, ◌++◌, drop, length, Option, Some, None, codes, refl, sym, ap, ◌∙◌, subst, append-nil, append_assoc, arith}
+use Rattle.std.proofs.lemmas.Bool.{and_parts, or_from}
 use Rattle.std.proofs.lemmas.Bool.Decides.{nat_tests}
 use Rattle.std.proofs.lemmas.Fmt.{decimal_is_IsNumeral_wide}
 use Rattle.std.specs.Char.{digit_value}
@@ -64,10 +64,7 @@ byte-quotes b bs ws q false true v w x et eu ev ew ex = escaped_by b 92 (ap Some
 byte-quotes b bs ws q false false true w x et eu ev ew ex = escaped_by b 110 (ap Some (sym (eqb-true b 10 ev))) q
 byte-quotes b bs ws q false false false true x et eu ev ew ex = escaped_by b 114 (ap Some (sym (eqb-true b 13 ew))) q
 byte-quotes b bs ws q false false false false true et eu ev ew ex = escaped_by b 116 (ap Some (sym (eqb-true b 9 ex))) q
-byte-quotes b bs ws q false false false false false et eu ev ew ex = as_it_is b et eu (not-raw (eqb b 9) (eqb b 10) (eqb b 13) ex ev ew) q
-  where
-    not-raw : (x y z : Bool) → x ≡ false → y ≡ false → z ≡ false → cond x true (cond y true z) ≡ false
-    not-raw x y z e f g = ?raw
+byte-quotes b bs ws q false false false false false et eu ev ew ex = as_it_is b et eu (or_from (eqb b 9) (eqb b 10 || eqb b 13) ex (or_from (eqb b 10) (eqb b 13) ev ew)) q
 
 pub escaped-quotes : (bs : List ℕ) → Quotes bs (escaped bs)
 escaped-quotes [] = nothing
@@ -102,4 +99,49 @@ made-spells table c k name (f ∷ fs) v vs ws more e h each =
     (a_made [] [] [] c k name f fs (and_value v vs) (ws ++ more) tt tt tt e (each f.ty (field_types fs) h))
   where
     shift : (o : Option Place) → name_of o ≡ name → name ++ (40 ∷ ((ws ++ more) ++ 41 ∷ [])) ≡ name_of o ++ (40 ∷ (ws ++ (more ++ 41 ∷ [])))
-    shift o e = ?shift
+    shift o e =
+        ap (λ (l : List ℕ). name ++ 40 ∷ l) (append_assoc ws more (41 ∷ [])) ∙ ap (λ (l : List ℕ). l ++ (40 ∷ (ws ++ (more ++ 41 ∷ [])))) (sym e)
+
+-- ---- a value
+
+mutual
+  text-spells : (table : Table) (v : Value) (t : Ty) → HasType table v t → Spells table t v (text_of table v)
+  text-spells table (num z) whole h = number-spells table z (small z h)
+  text-spells table (num z) truth h = absurd (cc)
+  text-spells table (num z) string h = absurd (cc)
+  text-spells table (num z) (named k) h = absurd (cc)
+  text-spells table (bool b) whole h = absurd (cc)
+  text-spells table (bool true) truth h = a_true [] tt
+  text-spells table (bool false) truth h = a_false [] tt
+  text-spells table (bool b) string h = absurd (cc)
+  text-spells table (bool b) (named k) h = absurd (cc)
+  text-spells table (text bs) whole h = absurd (cc)
+  text-spells table (text bs) truth h = absurd (cc)
+  text-spells table (text bs) string h = a_text [] bs (escaped bs) tt (escaped-quotes bs)
+  text-spells table (text bs) (named k) h = absurd (cc)
+  text-spells table (cons c vs) whole h = absurd (cc)
+  text-spells table (cons c vs) truth h = absurd (cc)
+  text-spells table (cons c vs) string h = absurd (cc)
+  text-spells table (cons c no_value) (named k) h =
+      let p = typed-place table no_value k (place_of table c) h in
+      constant-spells table c k p.0 p.1 p.2 p.3
+  text-spells table (cons c (and_value v vs)) (named k) h =
+      let p = typed-place table (and_value v vs) k (place_of table c) h in
+      made-spells table c k p.0 p.1 v vs (text_of table v) (texts_of table vs) p.2 p.3
+      (λ t ts g. texts-spell table vs v t ts (text_of table v)
+          (text-spells table v t (and_parts (has_type table v t) (has_fields table vs (Some ts)) g).0)
+          (and_parts (has_type table v t) (has_fields table vs (Some ts)) g).1)
+
+  texts-spell : (table : Table) (vs : Values) (v : Value) (t : Ty) (ts : List Ty) (ws : List ℕ) → Spells table t v ws → has_fields table vs (Some ts) ≡ true
+      → SpellsEach table (t ∷ ts) (and_value v vs) (ws ++ texts_of table vs)
+  texts-spell table no_value v t [] ws sp h = subst (λ w. SpellsEach table (t ∷ []) (and_value v no_value) w) (sym (append-nil ws)) (the_last t v ws sp)
+  texts-spell table no_value v t (u ∷ ts) ws sp h = absurd (cc)
+  texts-spell table (and_value x vs) v t [] ws sp h = absurd (cc)
+  texts-spell table (and_value x vs) v t (u ∷ ts) ws sp h =
+      let p = and_parts (has_type table x u) (has_fields table vs (Some ts)) h in
+      one_more t u ts v (and_value x vs) ws [] (text_of table x ++ texts_of table vs) sp tt
+      (texts-spell table vs x u ts (text_of table x) (text-spells table x u p.0) p.1)
+
+pub text-spelling : (table : Table) (t : Ty) (v : Value) → HasType table v t → IsSpelling table t v (text_of table v)
+text-spelling table t v h =
+    record { front = text_of table v; behind = []; parts = sym (append-nil (text_of table v)); spells = text-spells table v t h; blanks = tt }
