@@ -1,9 +1,9 @@
 -- What is spelled at the front of a text is read there, where it is of its type and enough levels are left.
-use Rattle.std.proofs.Common.{◌≡◌, ◌≢◌, ℕ, zero, suc, ◌+◌, ◌≤◌, max, ℤ, Bool, true, false, cond, eqb, eq-eqb, List, [], ◌∷◌, ◌++◌, Option, Some, None, codes, refl, sym, ap, ◌∙◌, subst, append_assoc, arith}
+use Rattle.std.proofs.Common.{◌≡◌, ℕ, zero, suc, ◌≤◌, ℤ, true, false, cond, eqb, eq-eqb, List, [], ◌∷◌, ◌++◌, Some, None, codes, refl, sym, ap, ◌∙◌, subst, append_assoc, arith}
 use Rattle.std.proofs.lemmas.Bool.{cond-true, and_parts}
 use Rattle.std.specs.Str.Parse.{signed_digits_value}
-use Rattle.txs_values.specs.Value.{Ty, whole, truth, string, named, Value, num, bool, text, cons, Values, no_value, and_value, Field, Table, Place, place_of, field_types, fits, height, heights, fields_in, HasType, has_type, has_fields}
-use Rattle.txs_values.specs.Spelling.{is_blank, is_letter, is_name_byte, past_blanks, Front, then_front, number_front, symbol_front, text_front, name_front, truth_named, Made, made_from, Reader, whole_front, with_truth, arguments_front, fields_front, with_made, level_front, value_front}
+use Rattle.txs_values.specs.Value.{Ty, truth, string, named, Value, num, bool, text, cons, Values, no_value, and_value, Field, Table, place_of, field_types, fits, height, heights, fields_in, HasType, has_type, has_fields}
+use Rattle.txs_values.specs.Spelling.{is_blank, is_name_byte, past_blanks, then_front, number_front, symbol_front, text_front, name_front, truth_named, made_from, Reader, whole_front, with_truth, arguments_front, fields_front, with_made, level_front, value_front}
 use Rattle.txs_values.specs.Spelled.{AreBlanks, AreDigits, IsSign, no_sign, minus_sign, Spells, a_number, a_true, a_false, a_text, a_constant, a_made, SpellsEach, the_last, one_more, IsName, IsNamed}
 use Rattle.txs_laws.proofs.spellings.Bytes.{Stops, past_blanks-is, stops-blanks, letter-blank, digit-blank}
 use Rattle.txs_laws.proofs.spellings.Fronts.{then_front-is, number_front-is, text_front-is, name_front-is}
@@ -55,9 +55,9 @@ module _ (table : Table) (is_named : IsNamed table) (left : ℕ) (below : Reader
       let s = complete t v ws (behind ++ 41 ∷ rest) sp (and_parts (has_type table v t) true ty).0 (omega (arith, low)) (stops-blanks behind (41 ∷ rest) ab refl) in
       let c = subst (λ u. below u (ws ++ (behind ++ 41 ∷ rest)) ≡ Some (record { value = v; rest = behind ++ 41 ∷ rest })) (same_types e).0 s in
       then_front-is (below f.ty (ws ++ (behind ++ 41 ∷ rest)))
-          (λ v rest. then_front (symbol_front 41 (past_blanks rest)) (λ _ more. Some (record { value = and_value v no_value; rest = more }))) v (behind ++ 41 ∷ rest) c
+      (λ v rest. then_front (symbol_front 41 (past_blanks rest)) (λ _ more. Some (record { value = and_value v no_value; rest = more }))) v (behind ++ 41 ∷ rest) c
       ∙ then_front-is (symbol_front 41 (past_blanks (behind ++ 41 ∷ rest))) (λ _ more. Some (record { value = and_value v no_value; rest = more })) true rest
-          (symbol-is 41 behind rest ab refl)
+      (symbol-is 41 behind rest ab refl)
   arguments-are (the_last t v ws sp) f (g ∷ fs) e behind rest ab ty low = absurd (cc)
   arguments-are (one_more t u ts v vs ws before more sp bb each) f [] e behind rest ab ty low = absurd (cc)
   arguments-are (one_more t u ts v vs ws before more sp bb each) f (g ∷ fs) e behind rest ab ty low =
@@ -67,11 +67,11 @@ module _ (table : Table) (is_named : IsNamed table) (left : ℕ) (below : Reader
       let c = subst (λ u. below u (ws ++ (before ++ 44 ∷ tail)) ≡ Some (record { value = v; rest = before ++ 44 ∷ tail })) (same_types e).0 s in
       ap (arguments_front below (f ∷ g ∷ fs)) (comma-joined ws before more (behind ++ 41 ∷ rest))
       ∙ then_front-is (below f.ty (ws ++ (before ++ 44 ∷ tail))) (λ v rest.
-          then_front (symbol_front 44 (past_blanks rest)) (λ _ behind.
-          then_front (arguments_front below (g ∷ fs) behind) (λ vs more. Some (record { value = and_value v vs; rest = more })))) v (before ++ 44 ∷ tail) c
+      then_front (symbol_front 44 (past_blanks rest)) (λ _ behind.
+      then_front (arguments_front below (g ∷ fs) behind) (λ vs more. Some (record { value = and_value v vs; rest = more })))) v (before ++ 44 ∷ tail) c
       ∙ then_front-is (symbol_front 44 (past_blanks (before ++ 44 ∷ tail))) (λ _ behind.
-          then_front (arguments_front below (g ∷ fs) behind) (λ vs more. Some (record { value = and_value v vs; rest = more }))) true tail
-          (symbol-is 44 before tail bb refl)
+      then_front (arguments_front below (g ∷ fs) behind) (λ vs more. Some (record { value = and_value v vs; rest = more }))) true tail
+      (symbol-is 44 before tail bb refl)
       ∙ then_front-is (arguments_front below (g ∷ fs) tail) (λ vs more. Some (record { value = and_value v vs; rest = more })) vs rest ih
 
   -- a name, and what its constructor asks for behind it
@@ -80,7 +80,7 @@ module _ (table : Table) (is_named : IsNamed table) (left : ℕ) (below : Reader
       → then_front (name_front (name ++ tail)) (λ name rest. with_made below (made_from 0 table k name) rest) ≡ fields_front below c fs tail
   name-is c k name fs tail e s =
       then_front-is (name_front (name ++ tail)) (λ name rest. with_made below (made_from 0 table k name) rest) name tail
-          (name_front-is name tail (is_named.names c (record { ty = k; constructor = record { name = name; fields = fs } }) e) s)
+      (name_front-is name tail (is_named.names c (record { ty = k; constructor = record { name = name; fields = fs } }) e) s)
       ∙ ap (λ o. with_made below o tail) (placed-made table is_named c k name fs e)
 
   name-begins : (c k : ℕ) (name : List ℕ) (fs : List Field) (tail : List ℕ)
@@ -92,8 +92,8 @@ module _ (table : Table) (is_named : IsNamed table) (left : ℕ) (below : Reader
       → fields_front below c (f ∷ fs) (before ++ 40 ∷ tail) ≡ Some (record { value = cons c vs; rest = rest })
   arguments-behind c f fs before tail rest vs bb h =
       then_front-is (symbol_front 40 (past_blanks (before ++ 40 ∷ tail))) (λ _ rest.
-          then_front (arguments_front below (f ∷ fs) rest) (λ vs more. Some (record { value = cons c vs; rest = more }))) true tail
-          (symbol-is 40 before tail bb refl)
+      then_front (arguments_front below (f ∷ fs) rest) (λ vs more. Some (record { value = cons c vs; rest = more }))) true tail
+      (symbol-is 40 before tail bb refl)
       ∙ then_front-is (arguments_front below (f ∷ fs) tail) (λ vs more. Some (record { value = cons c vs; rest = more })) vs rest h
 
   level-is : {t : Ty} {v : Value} {ws : List ℕ} → Spells table t v ws → (rest : List ℕ) → HasType table v t → height v ≤ suc left → Stops is_name_byte rest
@@ -102,16 +102,16 @@ module _ (table : Table) (is_named : IsNamed table) (left : ℕ) (below : Reader
       let z : ℤ = signed_digits_value 10 (sign ++ d ∷ ds) in
       ap whole_front (token-is bl (sign ++ d ∷ ds) rest ab (number-stops sg d ds rest ad))
       ∙ then_front-is (number_front ((sign ++ d ∷ ds) ++ rest)) (λ z rest. cond (fits z) (Some (record { value = num z; rest = rest })) None) z rest
-          (number_front-is sg d ds rest ad s)
+      (number_front-is sg d ds rest ad s)
       ∙ cond-true (fits z) (Some (record { value = num z; rest = rest })) None ty
   level-is (a_true bl ab) rest ty low s =
       ap (level_front table below truth) (token-is bl (codes "True") rest ab refl)
       ∙ then_front-is (name_front (codes "True" ++ rest)) (λ name rest. with_truth (truth_named name) rest) (codes "True") rest
-          (name_front-is (codes "True") rest (refl, (refl, (refl, (refl, tt)))) s)
+      (name_front-is (codes "True") rest (refl, (refl, (refl, (refl, tt)))) s)
   level-is (a_false bl ab) rest ty low s =
       ap (level_front table below truth) (token-is bl (codes "False") rest ab refl)
       ∙ then_front-is (name_front (codes "False" ++ rest)) (λ name rest. with_truth (truth_named name) rest) (codes "False") rest
-          (name_front-is (codes "False") rest (refl, (refl, (refl, (refl, (refl, tt))))) s)
+      (name_front-is (codes "False") rest (refl, (refl, (refl, (refl, (refl, tt))))) s)
   level-is (a_text bl bs ws ab q) rest ty low s =
       ap (level_front table below string) (token-is bl (34 ∷ (ws ++ 34 ∷ [])) rest ab refl)
       ∙ then_front-is (text_front ((34 ∷ (ws ++ 34 ∷ [])) ++ rest)) (λ t rest. Some (record { value = text t; rest = rest })) bs rest (text_front-is bs ws rest q)

@@ -1,5 +1,5 @@
 -- Numbers, texts and names at the front of a text: what is read there, and that what is spelled is read.
-use Rattle.std.proofs.Common.{◌≡◌, ℕ, ℤ, Bool, true, false, cond, ◌⊎◌, inl, inr, eqb, List, [], ◌∷◌, ◌++◌, Option, Some, None, codes, refl, sym, ap, ◌∙◌, subst, append_assoc, arith}
+use Rattle.std.proofs.Common.{◌≡◌, ℕ, ℤ, Bool, true, false, cond, ◌⊎◌, inl, inr, eqb, List, [], ◌∷◌, ◌++◌, Option, Some, None, codes, refl, sym, ap, ◌∙◌, subst, append_assoc}
 use Rattle.std.proofs.lemmas.Bool.{cond-true, cond-false, eqb-true}
 use Rattle.std.proofs.lemmas.Slice.Eq.{bytes_eq-Decides}
 use Rattle.std.specs.Str.{bytes_eq}
@@ -76,14 +76,14 @@ number_front-is no_sign d ds rest h s =
     let k = digits-each (d ∷ ds) h in
     let q = stops-digit rest s in
     cond-false (eqb d 45) (digits_front (45 ∷ []) (run_of is_digit (ds ++ rest)) (past_run is_digit (ds ++ rest)))
-        (digits_front [] (run_of is_digit (d ∷ (ds ++ rest))) (past_run is_digit (d ∷ (ds ++ rest)))) (digit-minus d h.0)
+    (digits_front [] (run_of is_digit (d ∷ (ds ++ rest))) (past_run is_digit (d ∷ (ds ++ rest)))) (digit-minus d h.0)
     ∙ digits_front-is [] (run_of is_digit (d ∷ (ds ++ rest))) (past_run is_digit (d ∷ (ds ++ rest))) ds rest d
-        (run-append is_digit (d ∷ ds) rest k q) (past-append is_digit (d ∷ ds) rest k q)
+    (run-append is_digit (d ∷ ds) rest k q) (past-append is_digit (d ∷ ds) rest k q)
 number_front-is minus_sign d ds rest h s =
     let k = digits-each (d ∷ ds) h in
     let q = stops-digit rest s in
     digits_front-is (45 ∷ []) (run_of is_digit (d ∷ (ds ++ rest))) (past_run is_digit (d ∷ (ds ++ rest))) ds rest d
-        (run-append is_digit (d ∷ ds) rest k q) (past-append is_digit (d ∷ ds) rest k q)
+    (run-append is_digit (d ∷ ds) rest k q) (past-append is_digit (d ∷ ds) rest k q)
 
 -- ---- a text
 

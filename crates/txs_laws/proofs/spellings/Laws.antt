@@ -1,10 +1,10 @@
 -- The laws on reading a text.
-use Rattle.std.proofs.Common.{◌≡◌, ◌≤◌, ℕ, Bool, true, false, cond, nat_le, leb-true, le-leb, List, [], ◌∷◌, ◌++◌, Option, Some, None, refl, sym, ap, ◌∙◌, subst, arith}
+use Rattle.std.proofs.Common.{◌≡◌, ◌≤◌, ℕ, Bool, true, false, cond, nat_le, leb-true, le-leb, List, [], ◌∷◌, Option, Some, None, refl, ap, ◌∙◌, subst}
 use Rattle.std.proofs.lemmas.Bool.{cond-true}
-use Rattle.txs_values.specs.Value.{Ty, Value, Table, size, height, value_size_limit, value_height_limit}
+use Rattle.txs_values.specs.Value.{Ty, Value, Table, size, value_size_limit, value_height_limit}
 use Rattle.txs_values.specs.Text.{text_of}
 use Rattle.txs_values.specs.Spelling.{past_blanks, Front, value_front, last_value, alone, read_text}
-use Rattle.txs_values.specs.Spelled.{AreBlanks, IsSpelling, IsNamed, IsAllowed}
+use Rattle.txs_values.specs.Spelled.{IsSpelling, IsNamed, IsAllowed}
 use Rattle.txs_laws.specs.Spellings.{ReadIsSpelled, TextIsSpelling, WrittenIsRead}
 use Rattle.txs_laws.proofs.spellings.Bytes.{stops-all, past_blanks-all, blanks-all}
 use Rattle.txs_laws.proofs.spellings.Fronts.{same_some}
@@ -33,9 +33,10 @@ spelled table t bs v h =
     by : (f : Front Value) → past_blanks f.rest ≡ [] → size f.value ≤ value_size_limit → Read table value_height_limit t bs f → f.value ≡ v
         → IsSpelling table t v bs × IsAllowed table t v
     by f e s r q =
-        subst (λ w. IsSpelling table t w bs × IsAllowed table t w) q
-        (record { front = r.spelled; behind = f.rest; parts = r.parts; spells = r.spells; blanks = blanks-all f.rest e },
-        record { typed = r.typed; small = s; low = r.low })
+        subst (λ w. IsSpelling table t w bs × IsAllowed table t w) q (
+          record { front = r.spelled; behind = f.rest; parts = r.parts; spells = r.spells; blanks = blanks-all f.rest e },
+          record { typed = r.typed; small = s; low = r.low },
+        )
 
 read : (table : Table) (t : Ty) (bs : List ℕ) (v : Value) → IsNamed table → IsSpelling table t v bs → IsAllowed table t v → read_text table t bs ≡ Some v
 read table t bs v n s a =

@@ -1,9 +1,9 @@
 -- A constructor by its name among those of a type, and by its number over the whole table.
-use Rattle.std.proofs.Common.{◌≡◌, ℕ, zero, suc, ◌+◌, Bool, true, false, cond, ◌⊎◌, inl, inr, List, [], ◌∷◌, Option, Some, None, refl, sym, ap, ◌∙◌, subst, arith}
-use Rattle.std.proofs.lemmas.Bool.{cond-true, cond-false}
+use Rattle.std.proofs.Common.{◌≡◌, ℕ, zero, suc, ◌+◌, Bool, true, false, cond, ◌⊎◌, inl, inr, List, [], ◌∷◌, Option, Some, refl, sym, ap, ◌∙◌, subst, arith}
+use Rattle.std.proofs.lemmas.Bool.{cond-true}
 use Rattle.std.proofs.lemmas.Slice.Eq.{bytes_eq-Decides}
 use Rattle.std.specs.Str.{bytes_eq}
-use Rattle.txs_values.specs.Value.{Field, Constructor, TypeDef, Table, Place, place_in, place_from, place_of}
+use Rattle.txs_values.specs.Value.{Field, Constructor, Table, Place, place_in, place_from, place_of}
 use Rattle.txs_values.specs.Spelling.{Made, made_in, made_from, count_of}
 use Rattle.txs_values.specs.Spelled.{IsNamed}
 use Rattle.txs_laws.proofs.spellings.Fronts.{same_some}
@@ -50,9 +50,12 @@ made_from-placed n j (t ∷ ts) zero name m h =
 made_from-placed n j (t ∷ ts) (suc k) name m h =
     let f = made_from-placed (n + count_of t.constructors) (suc j) ts k name m h in
     let c : m.number ≡ (n + count_of t.constructors) + f.0 = f.1 in
-    let e : suc j + k ≡ j + suc k = omega arith in
-    (count_of t.constructors + f.0, omega (arith, c), behind-count j t.constructors (place_from (suc j) ts) f.0 ∙ f.2
-    ∙ ap (λ i. Some (record { ty = i; constructor = record { name = name; fields = m.fields } })) e)
+    let e : suc j + k ≡ j + suc k = omega arith in (
+      count_of t.constructors + f.0,
+      omega (arith, c),
+      behind-count j t.constructors (place_from (suc j) ts) f.0 ∙ f.2
+          ∙ ap (λ i. Some (record { ty = i; constructor = record { name = name; fields = m.fields } })) e,
+    )
 
 pub made-placed : (table : Table) (k : ℕ) (name : List ℕ) (m : Made) → made_from 0 table k name ≡ Some m
     → place_of table m.number ≡ Some (record { ty = k; constructor = record { name = name; fields = m.fields } })
@@ -74,9 +77,13 @@ placed-in : (n j : ℕ) (xs : List Constructor) (c : ℕ) (go : ℕ → Option P
     → ((p.ty ≡ j) × ((m : Made) × (made_in n xs p.constructor.name ≡ Some m))) ⊎ ((d : ℕ) × (go d ≡ Some p))
 placed-in n j [] c go p h = inr (c, h)
 placed-in n j (x ∷ xs) zero go p h =
-    inl (subst (λ (q : Place). (q.ty ≡ j) × ((m : Made) × (made_in n (x ∷ xs) q.constructor.name ≡ Some m))) (same_some h)
-    (refl, (record { number = n; fields = x.fields },
-    cond-true (bytes_eq x.name x.name) (Some (record { number = n; fields = x.fields })) (made_in (suc n) xs x.name) ((bytes_eq-Decides x.name x.name).1 refl))))
+    inl (subst (λ (q : Place). (q.ty ≡ j) × ((m : Made) × (made_in n (x ∷ xs) q.constructor.name ≡ Some m))) (same_some h) (
+      refl,
+      (
+        record { number = n; fields = x.fields },
+        cond-true (bytes_eq x.name x.name) (Some (record { number = n; fields = x.fields })) (made_in (suc n) xs x.name) ((bytes_eq-Decides x.name x.name).1 refl),
+      ),
+    ))
 placed-in n j (x ∷ xs) (suc c) go p h =
     elim (placed-in (suc n) j xs c go p h) [
       | inl q ↦ inl (q.0, found-again n x xs p.constructor.name q.1 (bytes_eq x.name p.constructor.name))

@@ -1,11 +1,10 @@
 -- What is read at the front of a text is spelled there, is of its type, and is no higher than the levels that were left.
-use Rattle.std.proofs.Common.{◌≡◌, ℕ, zero, suc, ◌+◌, ◌≤◌, max, ℤ, Bool, true, false, cond, ◌⊎◌, inl, inr, eqb, eq-eqb, List, [], ◌∷◌, ◌++◌, Option, Some, None, codes, refl, sym, ap, ◌∙◌, subst, append_assoc, append-nil, arith}
-use Rattle.std.proofs.lemmas.Bool.{cond-true, and_from}
-use Rattle.std.specs.Str.Parse.{signed_digits_value}
-use Rattle.txs_values.specs.Value.{Ty, whole, truth, string, named, Value, num, bool, text, cons, Values, no_value, and_value, Field, Table, Place, place_of, field_types, fits, height, heights, fields_in, HasType, has_fields}
+use Rattle.std.proofs.Common.{◌≡◌, ℕ, zero, suc, ◌≤◌, ℤ, Bool, true, false, cond, ◌⊎◌, inl, inr, eq-eqb, List, [], ◌∷◌, ◌++◌, Option, Some, None, codes, refl, sym, ap, ◌∙◌, subst, append_assoc, append-nil, arith}
+use Rattle.std.proofs.lemmas.Bool.{and_from}
+use Rattle.txs_values.specs.Value.{Ty, whole, truth, string, named, Value, num, bool, text, cons, Values, no_value, and_value, Field, Table, place_of, field_types, fits, height, heights, fields_in, HasType, has_fields}
 use Rattle.txs_values.specs.Spelling.{past_blanks, Front, then_front, number_front, symbol_front, text_front, name_front, truth_named, Made, made_from, Reader, whole_front, with_truth, arguments_front, fields_front, with_made, level_front, value_front}
 use Rattle.txs_values.specs.Spelled.{AreBlanks, Spells, a_number, a_true, a_false, a_text, a_constant, a_made, SpellsEach, the_last, one_more}
-use Rattle.txs_laws.proofs.spellings.Bytes.{Blanks, blanks-parts}
+use Rattle.txs_laws.proofs.spellings.Bytes.{blanks-parts}
 use Rattle.txs_laws.proofs.spellings.Fronts.{same_some, then_front-some, symbol-parts, Number, number-parts, text-parts, name-parts, truth-named}
 use Rattle.txs_laws.proofs.spellings.Places.{made-placed}
 
@@ -84,10 +83,10 @@ module _ (table : Table) (left : ℕ) (below : Reader) (sound : Sound table left
           })
   arguments-read f (g ∷ fs) bs r h =
       let p = then_front-some (below f.ty bs) (λ v rest.
-          then_front (symbol_front 44 (past_blanks rest)) (λ _ behind.
-          then_front (arguments_front below (g ∷ fs) behind) (λ vs more. Some (record { value = and_value v vs; rest = more })))) r h in
+      then_front (symbol_front 44 (past_blanks rest)) (λ _ behind.
+      then_front (arguments_front below (g ∷ fs) behind) (λ vs more. Some (record { value = and_value v vs; rest = more })))) r h in
       let q = then_front-some (symbol_front 44 (past_blanks p.0.rest)) (λ _ behind.
-          then_front (arguments_front below (g ∷ fs) behind) (λ vs more. Some (record { value = and_value p.0.value vs; rest = more }))) r p.2 in
+      then_front (arguments_front below (g ∷ fs) behind) (λ vs more. Some (record { value = and_value p.0.value vs; rest = more }))) r p.2 in
       let s = then_front-some (arguments_front below (g ∷ fs) q.0.rest) (λ vs more. Some (record { value = and_value p.0.value vs; rest = more })) r q.2 in
       more p.0 (sound f.ty bs p.0 p.1) q.0 (symbol-behind 44 p.0.rest q.0 q.1) s.0 (arguments-read g fs q.0.rest s.0 s.1) s.2
     where

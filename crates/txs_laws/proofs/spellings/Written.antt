@@ -1,5 +1,5 @@
 -- The canonical text of a value of its type is one of its spellings.
-use Rattle.std.proofs.Common.{◌≡◌, ◌≢◌, ℕ, zero, suc, ◌+◌, ◌<◌, ◌^◌, ℤ, pos, negsuc, neg_ℤ, Bool, true, false, cond, ◌||◌, eqb, eqb-true, ltb-true, List, [], ◌∷◌, ◌++◌, drop, length, Option, Some, None, codes, refl, sym, ap, ◌∙◌, subst, append-nil, append_assoc, arith}
+use Rattle.std.proofs.Common.{◌≡◌, ℕ, suc, ◌<◌, ◌^◌, ℤ, pos, negsuc, neg_ℤ, Bool, true, false, cond, ◌||◌, eqb, eqb-true, ltb-true, List, [], ◌∷◌, ◌++◌, drop, Option, Some, None, refl, sym, ap, ◌∙◌, subst, append-nil, append_assoc, arith}
 use Rattle.std.proofs.lemmas.Bool.{and_parts, or_from}
 use Rattle.std.proofs.lemmas.Bool.Decides.{nat_tests}
 use Rattle.std.proofs.lemmas.Fmt.{decimal_is_IsNumeral_wide}
@@ -7,8 +7,8 @@ use Rattle.std.specs.Char.{digit_value}
 use Rattle.std.specs.Fmt.{decimal, signed_decimal}
 use Rattle.std.specs.Int.Signed.{mag}
 use Rattle.std.specs.Str.Parse.{AllDigits, IsNumeral, digits_value, signed_digits_value}
-use Rattle.txs_values.specs.Value.{Ty, whole, truth, string, named, Value, num, bool, text, cons, Values, no_value, and_value, Constructor, Field, Table, Place, place_of, field_types, fits, fields_in, HasType, has_type, has_fields}
-use Rattle.txs_values.specs.Spelling.{is_digit, is_raw, escape_of}
+use Rattle.txs_values.specs.Value.{Ty, whole, truth, string, named, Value, num, bool, text, cons, Values, no_value, and_value, Field, Table, Place, place_of, field_types, fits, fields_in, HasType, has_type, has_fields}
+use Rattle.txs_values.specs.Spelling.{is_digit}
 use Rattle.txs_values.specs.Text.{escaped, name_of, text_of, texts_of}
 use Rattle.txs_values.specs.Spelled.{AreDigits, no_sign, minus_sign, Quotes, nothing, as_it_is, escaped_by, Spells, a_number, a_true, a_false, a_text, a_constant, a_made, SpellsEach, the_last, one_more, IsSpelling}
 
@@ -129,8 +129,8 @@ mutual
       let p = typed-place table (and_value v vs) k (place_of table c) h in
       made-spells table c k p.0 p.1 v vs (text_of table v) (texts_of table vs) p.2 p.3
       (λ t ts g. texts-spell table vs v t ts (text_of table v)
-          (text-spells table v t (and_parts (has_type table v t) (has_fields table vs (Some ts)) g).0)
-          (and_parts (has_type table v t) (has_fields table vs (Some ts)) g).1)
+      (text-spells table v t (and_parts (has_type table v t) (has_fields table vs (Some ts)) g).0)
+      (and_parts (has_type table v t) (has_fields table vs (Some ts)) g).1)
 
   texts-spell : (table : Table) (vs : Values) (v : Value) (t : Ty) (ts : List Ty) (ws : List ℕ) → Spells table t v ws → has_fields table vs (Some ts) ≡ true
       → SpellsEach table (t ∷ ts) (and_value v vs) (ws ++ texts_of table vs)
