@@ -5,3 +5,4 @@ pub mod under
 pub mod instances
 pub mod bounded
 pub mod examples
+pub mod spellings

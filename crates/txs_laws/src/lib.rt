@@ -20,3 +20,6 @@ mod paths;
 pub use channels::no_channel_is_captured;
 pub use filling::filled_is_under;
 pub use paths::paths_are_bounded;
+mod reading;
+
+pub use reading::{read_is_spelled, text_is_spelling, written_is_read};

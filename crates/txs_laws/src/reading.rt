@@ -1,0 +1,17 @@
+//! What reading a text means.
+ghost use Rattle.txs_laws.specs.Spellings.{ReadIsSpelled, TextIsSpelling, WrittenIsRead};
+
+/// A text is read as the value that it spells.
+pub fn read_is_spelled()
+    ensures { ReadIsSpelled }
+{}
+
+/// The canonical text of a value is one of its spellings.
+pub fn text_is_spelling()
+    ensures { TextIsSpelling }
+{}
+
+/// What is written is read as what it was.
+pub fn written_is_read()
+    ensures { WrittenIsRead }
+{}
