@@ -1,5 +1,5 @@
 pub mod Facts
-pub mod All
+pub mod Sides
 pub mod Numbers
 pub mod Reading
 pub mod Lists

@@ -2,24 +2,21 @@
 #![tactic(auto)]
 
 mod answers;
+mod channels;
 mod decided;
+mod filling;
+mod items;
 mod menus;
+mod paths;
+mod reading;
 mod sets;
 
 pub use answers::{atoms_decide, sat_is_true};
-pub use decided::{points_have_cells, sat_is_point, unsat_is_none};
-pub use menus::items_are_steps;
-pub use sets::{closed_is_reached, first_is_after, moved_is_stepped, next_is_after};
-mod items;
-
-pub use items::{items_are_typed, runs_are_typed, steps_are_typed};
-mod channels;
-mod filling;
-mod paths;
-
 pub use channels::no_channel_is_captured;
+pub use decided::{points_have_cells, sat_is_point, unsat_is_none};
 pub use filling::filled_is_under;
+pub use items::{items_are_typed, runs_are_typed, steps_are_typed};
+pub use menus::items_are_steps;
 pub use paths::paths_are_bounded;
-mod reading;
-
 pub use reading::{read_is_spelled, text_is_spelling, written_is_read};
+pub use sets::{closed_is_reached, first_is_after, moved_is_stepped, next_is_after};

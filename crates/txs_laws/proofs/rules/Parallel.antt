@@ -115,7 +115,7 @@ alone_order model scope gates wrap is o z h =
 
 -- ---- both sides together
 
-same_values-true : (vs ws : List Value) → same_values vs ws ≡ true → vs ≡ ws
+pub same_values-true : (vs ws : List Value) → same_values vs ws ≡ true → vs ≡ ws
 same_values-true [] [] e = refl
 same_values-true [] (w ∷ ws) e = cc
 same_values-true (v ∷ vs) [] e = cc

@@ -4,11 +4,12 @@ use Rattle.std.proofs.Common.{◌≡◌, ◌<◌, ℕ, zero, suc, ◌+◌, Bool,
 use Rattle.txs_values.specs.Value.{Ty, Value, Table, HaveTypes}
 use Rattle.txs_terms.specs.Expr.{Expr, Puts, put_all}
 use Rattle.txs_terms.specs.Eval.{Defs}
-use Rattle.txs_terms.specs.Action.{Channels, Scope, types_on, types_over}
+use Rattle.txs_terms.specs.Action.{Channels, Scope, types_on, types_over, in_order, Ascending}
 use Rattle.txs_terms.specs.Term.{Offer, Term, stop, exits, prefix, step, guard, choice, par, enable, disable, interrupt, hide, call, bind, machine, hit, miss, put_term, fill, instance, channels_bound, Move, offering, silent, Automaton, move_term}
-use Rattle.txs_terms.specs.Rules.{Model, In, HasMove, offered, in_order, visible}
+use Rattle.txs_terms.specs.Rules.{Model, In, HasMove, offered, visible}
 use Rattle.txs_terms.specs.Typed.{Signatures, AreTyped, AreGuards, FitOffers, AllBelow, AreScope, OfTerm, IsTypedModel, ExitsWith}
 use Rattle.txs_terms.specs.Menu.{Kind, on, within, ending, Item, Verdict, holds, fails, faults, Walk, faulted, walked, wide, path_limit, walk_limit, channel_limit, then_walk, too_many, capped, where_holds, where_some, all_values, bound_values, prefix_item, places, width, par_items, pass, disabled, interrupted, back_to, closed_up, fix_all, Fixed, unable, fixed, with_slots, strip, shown_kind, Hidden, bad_item, left_with, strip_by, strip_fixed, loose_slots, hide_on, hide_kind, and_hidden, hide_all, hidden_walk, body_walk, Walks, prefix_level, step_level, move_level, each_move, state_walk, machine_walk, level, walk, menu, judge, without_slots, all_fixes}
+use Rattle.txs_laws.proofs.typing.Sides.{sides_map, Sides}
 use Rattle.txs_laws.specs.Items.{AreItemGuards, IsItem, AreItems, ItemsAreTyped}
 use Rattle.txs_laws.proofs.typing.Lists.{same_some}
 use Rattle.txs_laws.proofs.typing.Puts.{then_put, put_put_term}
@@ -204,6 +205,22 @@ module _ (model : Model) (signatures : Signatures) (typed : IsTypedModel model s
   abbrev AllWell : Walks → Type 0
   AllWell go = (scope : Scope) (exit_types : List Ty) (t : Term) (n : ℕ) → IsOk scope exit_types t → Well scope exit_types (go scope t n)
 
+  sides_well : (scope : Scope) (gates : Channels) → AllBelow (length scope) gates → Ascending gates → (exit_types : List Ty) (a b : Term) (is : List Item) (z : Walk)
+      → Sides (λ ts. IsOk scope ts a × AreItems model.defs.table signatures scope ts is) (λ ts. IsOk scope ts b × Well scope ts z) exit_types
+      → Well scope exit_types (then_walk z (λ k js. walked k (par_items scope gates a b is js)))
+  sides_well scope gates l g exit_types a b is (faulted f) s = tt
+  sides_well scope gates l g exit_types a b is (walked m js) s = par_typed model.defs.table signatures scope gates l g exit_types a b is js s
+
+  par_well : (go : Walks) (scope : Scope) (gates : Channels) → AllBelow (length scope) gates → Ascending gates → (exit_types : List Ty) (a b : Term) (z : Walk)
+      → Sides (λ ts. IsOk scope ts a × Well scope ts z) (λ ts. IsOk scope ts b × ((m : ℕ) → Well scope ts (go scope b m))) exit_types
+      → Well scope exit_types (then_walk z (λ m is. then_walk (go scope b m) (λ k js. walked k (par_items scope gates a b is js))))
+  par_well go scope gates l g exit_types a b (faulted f) s = tt
+  par_well go scope gates l g exit_types a b (walked m is) s =
+      sides_well scope gates l g exit_types a b is (go scope b m)
+      (sides_map (λ ts. IsOk scope ts a × Well scope ts (walked m is)) (λ ts. IsOk scope ts b × ((n : ℕ) → Well scope ts (go scope b n)))
+      (λ ts. IsOk scope ts a × AreItems model.defs.table signatures scope ts is) (λ ts. IsOk scope ts b × Well scope ts (go scope b m))
+      (λ ts k. k) (λ ts k. (k.0, k.1 m)) exit_types s)
+
   level_well : (go : Walks) → AllWell go → AllWell (level model go)
   level_well go w scope exit_types stop n h = tt
   level_well go w scope exit_types (exits es) n h =
@@ -216,9 +233,10 @@ module _ (model : Model) (signatures : Signatures) (typed : IsTypedModel model s
   level_well go w scope exit_types (choice a b) n h =
       joined_well scope exit_types (go scope a n) (go scope b) (w scope exit_types a n h.0) (λ m. w scope exit_types b m h.1)
   level_well go w scope exit_types (par gates a b) n h =
-      then_well model.defs.table signatures scope scope exit_types exit_types (go scope a n) _ (w scope exit_types a n h.1)
-      (λ m is p. then_well model.defs.table signatures scope scope exit_types exit_types (go scope b m) _ (w scope exit_types b m h.2)
-      (λ i js q. par_typed model.defs.table signatures scope gates h.0 exit_types a b is js h.1 h.2 p q))
+      par_well go scope gates h.0 h.1 exit_types a b (go scope a n)
+      (sides_map (λ ts. IsOk scope ts a) (λ ts. IsOk scope ts b)
+      (λ ts. IsOk scope ts a × Well scope ts (go scope a n)) (λ ts. IsOk scope ts b × ((m : ℕ) → Well scope ts (go scope b m)))
+      (λ ts k. (k, w scope ts a n k)) (λ ts k. (k, λ m. w scope ts b m k)) exit_types h.2)
   level_well go w scope exit_types (enable a xs b) n h =
       then_well model.defs.table signatures scope scope h.0 exit_types (go scope a n) _ (w scope h.0 a n h.2)
       (λ m is p. items_map model.defs.table signatures scope h.0 exit_types (pass scope xs b)

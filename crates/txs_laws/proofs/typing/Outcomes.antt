@@ -111,7 +111,7 @@ module _ (table : Table) where
   unary_fine negation_of (cons c vs) h = cc
   unary_fine (to_text_of t) (num x) h = long_fine _
   unary_fine (to_text_of t) (bool b) h = long_fine _
-  unary_fine (to_text_of t) (text b) h = refl
+  unary_fine (to_text_of t) (text b) h = long_fine _
   unary_fine (to_text_of t) (cons c vs) h = long_fine _
   unary_fine (from_text_of t) (num x) h = cc
   unary_fine (from_text_of t) (bool b) h = cc

@@ -1,13 +1,14 @@
 -- A step of a well typed term is within its scope and leads to a well typed term.
 use Rattle.std.specs.Prelude.{Some, None, slice_get}
-use Rattle.std.proofs.Common.{◌≡◌, ◌<◌, ℕ, zero, suc, List, [], ◌∷◌, ◌++◌, length, refl, sym, ap, ◌∙◌, subst}
+use Rattle.std.proofs.Common.{◌≡◌, ◌<◌, ℕ, zero, suc, List, [], ◌∷◌, ◌++◌, length, refl, sym, ap, ◌∙◌, subst, inl, inr}
 use Rattle.txs_values.specs.Value.{Ty, Value, HaveTypes}
 use Rattle.txs_terms.specs.Expr.{Expr, put, filled}
 use Rattle.txs_terms.specs.Eval.{Defs, height_limit}
-use Rattle.txs_terms.specs.Action.{Label, act, inner, ends, channels, values_over, part_of, Scope, types_over, IsAction}
+use Rattle.txs_terms.specs.Action.{Label, act, inner, ends, channels, values_over, part_of, Scope, types_over, IsAction, in_order}
 use Rattle.txs_terms.specs.Term.{Offer, Term, fill, instance, move_term}
-use Rattle.txs_terms.specs.Rules.{Model, AllGive, AllBind, Step, offers, steps, exit, guarded, choose_left, choose_right, left_alone, right_alone, left_inner, right_inner, joined, both_end, before, before_inner, passes, left_goes_on, left_inner_on, left_ends, takes_over, undisturbed, undisturbed_inner, undisturbed_ends, interrupts, interrupts_inner, returns, shown, hidden, hide_inner, hide_ends, unfold', binds, moves, offered, in_order, visible}
+use Rattle.txs_terms.specs.Rules.{Model, AllGive, AllBind, Step, offers, steps, exit, guarded, choose_left, choose_right, left_alone, right_alone, left_inner, right_inner, joined, both_end, before, before_inner, passes, left_goes_on, left_inner_on, left_ends, takes_over, undisturbed, undisturbed_inner, undisturbed_ends, interrupts, interrupts_inner, returns, shown, hidden, hide_inner, hide_ends, unfold', binds, moves, offered, visible}
 use Rattle.txs_terms.specs.Typed.{Signatures, AreTyped, OfEach, OfBindings, FitOffers, AllBelow, OfTerm, IsTypedModel, ExitsWith}
+use Rattle.txs_laws.proofs.typing.Sides.{sides_map, some_left, some_right, some_whole}
 use Rattle.txs_laws.specs.Items.{StaysWithin, StepsAreTyped}
 use Rattle.txs_laws.proofs.typing.Lists.{same_some, have_joined}
 use Rattle.txs_laws.proofs.typing.Putting.{put_typed, filled_all}
@@ -41,6 +42,9 @@ module _ (model : Model) (signatures : Signatures) (typed : IsTypedModel model s
   offered_below scope slots [] h = tt
   offered_below scope slots (o ∷ os) h = (h.0, offered_below scope slots os h.2)
 
+  abbrev Is : Scope → Term → List Ty → Type 0
+  Is scope t ts = OfTerm model.defs.table signatures scope [] ts t
+
   steps_typed : {scope : Scope} {t t' : Term} {l : Label} → Step model scope t l t' → (exit_types : List Ty)
       → OfTerm model.defs.table signatures scope [] exit_types t
       → StaysWithin model.defs.table scope exit_types l × OfTerm model.defs.table signatures scope [] exit_types t'
@@ -53,15 +57,23 @@ module _ (model : Model) (signatures : Signatures) (typed : IsTypedModel model s
   steps_typed (guarded g s) exit_types h = steps_typed s exit_types h.1
   steps_typed (choose_left s) exit_types h = steps_typed s exit_types h.0
   steps_typed (choose_right s) exit_types h = steps_typed s exit_types h.1
-  steps_typed (left_alone n s) exit_types h = let p = steps_typed s exit_types h.1 in (p.0, (h.0, p.1, h.2))
-  steps_typed (right_alone n s) exit_types h = let p = steps_typed s exit_types h.2 in (p.0, (h.0, h.1, p.1))
-  steps_typed (left_inner s) exit_types h = let p = steps_typed s exit_types h.1 in (tt, (h.0, p.1, h.2))
-  steps_typed (right_inner s) exit_types h = let p = steps_typed s exit_types h.2 in (tt, (h.0, h.1, p.1))
-  steps_typed {scope = scope} (joined x xs ys j e k s r) exit_types h =
-      let p = steps_typed s exit_types h.1 in let q = steps_typed r exit_types h.2 in
+  steps_typed {scope = scope} (left_alone {a = a} {b = b} {a' = a'} n s) exit_types h =
+      let l = some_left (Is scope a) (Is scope b) exit_types h.2 in
+      ((steps_typed s l.0 l.1).0, (h.0, h.1, sides_map (Is scope a) (Is scope b) (Is scope a') (Is scope b) (λ ts k. (steps_typed s ts k).1) (λ ts k. k) exit_types h.2))
+  steps_typed {scope = scope} (right_alone {a = a} {b = b} {b' = b'} n s) exit_types h =
+      let r = some_right (Is scope a) (Is scope b) exit_types h.2 in
+      ((steps_typed s r.0 r.1).0, (h.0, h.1, sides_map (Is scope a) (Is scope b) (Is scope a) (Is scope b') (λ ts k. k) (λ ts k. (steps_typed s ts k).1) exit_types h.2))
+  steps_typed {scope = scope} (left_inner {a = a} {b = b} {a' = a'} s) exit_types h =
+      (tt, (h.0, h.1, sides_map (Is scope a) (Is scope b) (Is scope a') (Is scope b) (λ ts k. (steps_typed s ts k).1) (λ ts k. k) exit_types h.2))
+  steps_typed {scope = scope} (right_inner {a = a} {b = b} {b' = b'} s) exit_types h =
+      (tt, (h.0, h.1, sides_map (Is scope a) (Is scope b) (Is scope a) (Is scope b') (λ ts k. k) (λ ts k. (steps_typed s ts k).1) exit_types h.2))
+  steps_typed {scope = scope} (joined {a = a} {b = b} {a' = a'} {b' = b'} x xs ys j e k s r) exit_types h =
+      let l = some_left (Is scope a) (Is scope b) exit_types h.2 in let m = some_right (Is scope a) (Is scope b) exit_types h.2 in
       (subst (AllBelow (length scope)) (sym e) (union_below (length scope) xs ys
-      (subst (AllBelow (length scope)) (channels_part x xs) p.0) (subst (AllBelow (length scope)) (channels_part x ys) q.0)), (h.0, p.1, q.1))
-  steps_typed (both_end s r) exit_types h = let p = steps_typed s exit_types h.1 in (p.0, tt)
+      (subst (AllBelow (length scope)) (channels_part x xs) (steps_typed s l.0 l.1).0) (subst (AllBelow (length scope)) (channels_part x ys) (steps_typed r m.0 m.1).0)),
+      (h.0, h.1, sides_map (Is scope a) (Is scope b) (Is scope a') (Is scope b') (λ ts f. (steps_typed s ts f).1) (λ ts f. (steps_typed r ts f).1) exit_types h.2))
+  steps_typed {scope = scope} (both_end {a = a} {b = b} s r) exit_types h =
+      (elim (some_whole (Is scope a) (Is scope b) exit_types h.2) [ inl k ↦ (steps_typed s exit_types k).0 | inr k ↦ (steps_typed r exit_types k).0 ], tt)
   steps_typed (before s) exit_types h = let p = steps_typed s h.0 h.2 in (p.0, (h.0, h.1, p.1, h.3))
   steps_typed (before_inner s) exit_types h = let p = steps_typed s h.0 h.2 in (tt, (h.0, h.1, p.1, h.3))
   steps_typed {scope = scope} (passes {b = b} vs s) exit_types h =

@@ -1,12 +1,15 @@
 -- A term stays well typed when expressions of their types are put for its slots, or channels of the same types for its channels.
 use Rattle.std.specs.Prelude.{Some, None, slice_get}
-use Rattle.std.proofs.Common.{◌≡◌, ◌<◌, ℕ, zero, suc, ◌+◌, List, [], ◌∷◌, ◌++◌, map, length, refl, sym, ap, ◌∙◌, subst, arith}
+use Rattle.std.proofs.Common.{◌≡◌, ◌<◌, ℕ, zero, suc, ◌+◌, List, [], ◌∷◌, ◌++◌, map, length, refl, sym, ap, ◌∙◌, subst, arith, false}
 use Rattle.txs_values.specs.Value.{Ty, Value, Table, HasType, HaveTypes, truth}
 use Rattle.txs_terms.specs.Expr.{Expr, slot, Puts, put, put_all, filled, moved}
-use Rattle.txs_terms.specs.Action.{Channels, Scope, types_on, types_over}
+use Rattle.txs_terms.specs.Action.{Channels, Scope, types_on, types_over, is_empty}
 use Rattle.txs_terms.specs.Term.{Position, give, take, Offer, Term, stop, exits, prefix, step, guard, choice, par, enable, disable, interrupt, hide, call, bind, machine, hit, miss, put_position, put_offer, put_term, fill, channel_at, offer_at, with_channels, instance}
 use Rattle.txs_terms.specs.Rules.{offered}
 use Rattle.txs_terms.specs.Typed.{Signatures, Of, OfEach, AreGuards, FitPositions, FitOffers, OfBindings, FitChannels, AllBelow, OfTerm}
+use Rattle.txs_laws.proofs.typing.Channels.{union_below}
+use Rattle.txs_laws.proofs.rules.Channels.{ascending_order}
+use Rattle.txs_laws.proofs.typing.Sides.{sides_map}
 use Rattle.txs_laws.proofs.typing.Lists.{joined_again, joined_none}
 use Rattle.txs_laws.proofs.typing.Putting.{Suits, put_typed, filled_suits}
 
@@ -76,7 +79,8 @@ module _ (table : Table) (signatures : Signatures) where
       subst (λ l. AreGuards table signatures (others ++ l) (put_all f gs)) same
       (put_guards f (slots ++ ts) (others ++ ts) (carries_here f (slots ++ ts) (others ++ ts) more) gs h.1),
       subst (λ l. OfTerm table signatures scope (others ++ l) exit_types (put_term f t)) same
-      (put_term_typed t f scope (slots ++ ts) (others ++ ts) exit_types more h.2))
+      (put_term_typed t f scope (slots ++ ts) (others ++ ts) exit_types more h.2),
+      ap is_empty (offered_put f os) ∙ h.3)
   put_term_typed (step gs t) f scope slots others exit_types c h =
       (put_guards f slots others (carries_here f slots others c) gs h.0, put_term_typed t f scope slots others exit_types c h.1)
   put_term_typed (guard gs t) f scope slots others exit_types c h =
@@ -84,7 +88,9 @@ module _ (table : Table) (signatures : Signatures) where
   put_term_typed (choice a b) f scope slots others exit_types c h =
       (put_term_typed a f scope slots others exit_types c h.0, put_term_typed b f scope slots others exit_types c h.1)
   put_term_typed (par gates a b) f scope slots others exit_types c h =
-      (h.0, put_term_typed a f scope slots others exit_types c h.1, put_term_typed b f scope slots others exit_types c h.2)
+      (h.0, h.1, sides_map (λ ts. OfTerm table signatures scope slots ts a) (λ ts. OfTerm table signatures scope slots ts b)
+      (λ ts. OfTerm table signatures scope others ts (put_term f a)) (λ ts. OfTerm table signatures scope others ts (put_term f b))
+      (λ ts k. put_term_typed a f scope slots others ts c k) (λ ts k. put_term_typed b f scope slots others ts c k) exit_types h.2)
   put_term_typed (enable a xs b) f scope slots others exit_types c h =
       (h.0, h.1, put_term_typed a f scope slots others h.0 c h.2,
       put_term_typed b f scope (slots ++ h.0) (others ++ h.0) exit_types (carries_more f slots others h.0 c) h.3)
@@ -154,6 +160,10 @@ module _ (table : Table) (signatures : Signatures) where
       let p = sym (l o.channel h.0).1 in let q = types_led g formals scope l slots os h.2 in
       ap (λ x. x ++ types_over formals (offered os)) p ∙ ap (λ x. types_on scope (g o.channel) ++ x) q
 
+  still_some : (g : ℕ → ℕ) (os : List Offer) → is_empty (offered os) ≡ false → is_empty (offered (map (offer_at g) os)) ≡ false
+  still_some g [] e = e
+  still_some g (o ∷ os) e = refl
+
   pub channels_typed : (t : Term) (g : ℕ → ℕ) (formals scope : Scope) (slots exit_types : List Ty) → Leads g formals scope
       → OfTerm table signatures formals slots exit_types t → OfTerm table signatures scope slots exit_types (with_channels g t)
   channels_typed stop g formals scope slots exit_types l h = tt
@@ -164,14 +174,18 @@ module _ (table : Table) (signatures : Signatures) where
       (offers_led g formals scope here slots os h.0,
       subst (λ x. AreGuards table signatures (slots ++ x) gs) same h.1,
       subst (λ x. OfTerm table signatures scope (slots ++ x) exit_types (with_channels g t)) same
-      (channels_typed t g formals scope (slots ++ types_over formals (offered os)) exit_types l h.2))
+      (channels_typed t g formals scope (slots ++ types_over formals (offered os)) exit_types l h.2),
+      still_some g os h.3)
   channels_typed (step gs t) g formals scope slots exit_types l h = (h.0, channels_typed t g formals scope slots exit_types l h.1)
   channels_typed (guard gs t) g formals scope slots exit_types l h = (h.0, channels_typed t g formals scope slots exit_types l h.1)
   channels_typed (choice a b) g formals scope slots exit_types l h =
       (channels_typed a g formals scope slots exit_types l h.0, channels_typed b g formals scope slots exit_types l h.1)
   channels_typed (par gates a b) g formals scope slots exit_types l h =
-      (below_led g formals scope (leads_here g formals scope l) gates h.0,
-      channels_typed a g formals scope slots exit_types l h.1, channels_typed b g formals scope slots exit_types l h.2)
+      (union_below (length scope) (map g gates) [] (below_led g formals scope (leads_here g formals scope l) gates h.0) tt,
+      ascending_order (map g gates),
+      sides_map (λ ts. OfTerm table signatures formals slots ts a) (λ ts. OfTerm table signatures formals slots ts b)
+      (λ ts. OfTerm table signatures scope slots ts (with_channels g a)) (λ ts. OfTerm table signatures scope slots ts (with_channels g b))
+      (λ ts k. channels_typed a g formals scope slots ts l k) (λ ts k. channels_typed b g formals scope slots ts l k) exit_types h.2)
   channels_typed (enable a xs b) g formals scope slots exit_types l h =
       (h.0, h.1, channels_typed a g formals scope slots h.0 l h.2, channels_typed b g formals scope (slots ++ h.0) exit_types l h.3)
   channels_typed (disable a b) g formals scope slots exit_types l h =

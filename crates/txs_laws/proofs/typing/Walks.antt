@@ -1,14 +1,16 @@
 -- Operators over lists of well typed items: prefix, parallel, enable, disable and interrupt.
 use Rattle.std.specs.Prelude.{Option, Some, None, slice_get}
-use Rattle.std.proofs.Common.{◌≡◌, ◌<◌, ℕ, zero, suc, ◌+◌, Bool, true, false, cond, List, [], ◌∷◌, ◌++◌, map, length, refl, sym, ap, ◌∙◌, subst, arith}
+use Rattle.std.proofs.Common.{◌≡◌, ◌<◌, ℕ, zero, suc, ◌+◌, Bool, true, false, cond, List, [], ◌∷◌, ◌++◌, map, length, refl, sym, ap, ◌∙◌, subst, arith, inl, inr}
 use Rattle.txs_values.specs.Value.{Ty, Value, Table, HasType, HaveTypes, truth}
 use Rattle.txs_terms.specs.Expr.{Expr, val, slot, equal, Puts, put, put_all, moved, has_slot}
 use Rattle.txs_terms.specs.Eval.{Defs, Run, got, bad, eval, height_limit, run}
-use Rattle.txs_terms.specs.Action.{Channels, Scope, types_on, types_over, arity, union, joins, none_in, from}
+use Rattle.txs_terms.specs.Action.{Channels, Scope, types_on, types_over, arity, union, joins, none_in, from, in_order, Ascending}
 use Rattle.txs_terms.specs.Term.{Name, Position, give, take, Offer, Term, stop, par, enable, disable, interrupt, put_term, fill}
-use Rattle.txs_terms.specs.Rules.{offered, in_order}
+use Rattle.txs_terms.specs.Rules.{offered}
 use Rattle.txs_terms.specs.Typed.{Signatures, Of, val_of, slot_of, equal_of, AreTyped, AreGuards, FitPositions, FitOffers, AllBelow, OfTerm}
 use Rattle.txs_terms.specs.Menu.{Kind, on, within, ending, Item, with_slots, gather, fixed_by, fixes, both_lists, all_fixes, prefix_item, width, start, places, size_of, beside, goes_alone, wrapped, alone, left_of, right_of, among, join_on, same_values, join_ends, join_kinds, join, par_items, pass_kind, pass, wrap_kind, disabled, interrupted, back_kind, back_to, too_many, capped, Walk, faulted, walked, wide, then_walk, where_holds, where_some, Verdict, holds, fails, faults, eval_fault, without_slots, judge, prefix_walk}
+use Rattle.txs_laws.proofs.rules.Parallel.{same_values-true}
+use Rattle.txs_laws.proofs.typing.Sides.{sides_map, some_left, some_right, some_whole, Sides}
 use Rattle.txs_laws.specs.Items.{AreItemGuards, IsItem, AreItems}
 use Rattle.txs_laws.proofs.typing.Lists.{same_some}
 use Rattle.txs_laws.proofs.typing.Putting.{Suits, put_typed}
@@ -62,35 +64,78 @@ module _ (table : Table) (signatures : Signatures) (scope : Scope) where
 
   -- ---- parallel
 
-  module _ (gates : Channels) (below : AllBelow (length scope) gates) (exit_types : List Ty) where
-    left_typed : (b : Term) → OfTerm table signatures scope [] exit_types b → (i : Item) → IsItemOf exit_types i
+  abbrev Is : List Ty → Term → List Ty → Type 0
+  Is slots t ts = OfTerm table signatures scope slots ts t
+
+  abbrev Of_kind : Kind → Item → List Ty → Type 0
+  Of_kind k i ts = IsItem table signatures scope ts k i.guards i.rest
+
+  abbrev Of_item : Item → List Ty → Type 0
+  Of_item i ts = IsItemOf ts i
+
+  abbrev Of_items : List Item → List Ty → Type 0
+  Of_items is ts = AreItems table signatures scope ts is
+
+  -- what is made of each item of a side
+  gather_left : (B : List Ty → Type 0) (exit_types : List Ty) (f : Item → List Item)
+      → ((i : Item) → Sides (Of_item i) B exit_types → AreItems table signatures scope exit_types (f i))
+      → (is : List Item) → Sides (Of_items is) B exit_types → AreItems table signatures scope exit_types (gather f is)
+  gather_left B exit_types f go [] s = tt
+  gather_left B exit_types f go (i ∷ is) s =
+      items_joined exit_types (f i) (gather f is)
+      (go i (sides_map (Of_items (i ∷ is)) B (Of_item i) B (λ ts k. k.0) (λ ts k. k) exit_types s))
+      (gather_left B exit_types f go is (sides_map (Of_items (i ∷ is)) B (Of_items is) B (λ ts k. k.1) (λ ts k. k) exit_types s))
+
+  gather_right : (A : List Ty → Type 0) (exit_types : List Ty) (f : Item → List Item)
+      → ((i : Item) → Sides A (Of_item i) exit_types → AreItems table signatures scope exit_types (f i))
+      → (is : List Item) → Sides A (Of_items is) exit_types → AreItems table signatures scope exit_types (gather f is)
+  gather_right A exit_types f go [] s = tt
+  gather_right A exit_types f go (i ∷ is) s =
+      items_joined exit_types (f i) (gather f is)
+      (go i (sides_map A (Of_items (i ∷ is)) A (Of_item i) (λ ts k. k) (λ ts k. k.0) exit_types s))
+      (gather_right A exit_types f go is (sides_map A (Of_items (i ∷ is)) A (Of_items is) (λ ts k. k) (λ ts k. k.1) exit_types s))
+
+  module _ (gates : Channels) (below : AllBelow (length scope) gates) (ascend : Ascending gates) (exit_types : List Ty) where
+    left_typed : (b : Term) → (i : Item) → Sides (Of_item i) (Is [] b) exit_types
         → AreItems table signatures scope exit_types (alone gates (left_of scope gates b) i)
-    left_typed b h i k = by i.kind k
+    left_typed b i s = by i.kind s
       where
-        if_alone : (cs : Channels) (c : Bool) → IsItem table signatures scope exit_types (on cs) i.guards i.rest
+        if_alone : (cs : Channels) (c : Bool) → Sides (Of_kind (on cs) i) (Is [] b) exit_types
             → AreItems table signatures scope exit_types (cond c (record { kind = on cs; guards = i.guards; rest = left_of scope gates b (on cs) i.rest } ∷ []) [])
-        if_alone cs true q = ((q.0, q.1, (below, q.2, beside_typed exit_types (on cs) b h)), tt)
+        if_alone cs true q =
+            let l = some_left (Of_kind (on cs) i) (Is [] b) exit_types q in
+            (((l.1).0, (l.1).1, (below, ascend, sides_map (Of_kind (on cs) i) (Is [] b) (Is (types_over scope cs) i.rest) (Is (types_over scope cs) (beside scope (on cs) b))
+            (λ ts k. k.2) (λ ts k. beside_typed ts (on cs) b k) exit_types q)), tt)
         if_alone cs false q = tt
 
-        by : (k : Kind) → IsItem table signatures scope exit_types k i.guards i.rest
+        by : (k : Kind) → Sides (Of_kind k i) (Is [] b) exit_types
             → AreItems table signatures scope exit_types (cond (goes_alone gates k) (record { kind = k; guards = i.guards; rest = left_of scope gates b k i.rest } ∷ []) [])
         by (on cs) q = if_alone cs (none_in gates cs) q
-        by within q = ((q.0, (below, q.1, beside_typed exit_types within b h)), tt)
+        by within q =
+            let l = some_left (Of_kind within i) (Is [] b) exit_types q in
+            (((l.1).0, (below, ascend, sides_map (Of_kind within i) (Is [] b) (Is [] i.rest) (Is [] (beside scope within b))
+            (λ ts k. k.1) (λ ts k. beside_typed ts within b k) exit_types q)), tt)
         by (ending vs) q = tt
 
-    right_typed : (a : Term) → OfTerm table signatures scope [] exit_types a → (i : Item) → IsItemOf exit_types i
+    right_typed : (a : Term) → (i : Item) → Sides (Is [] a) (Of_item i) exit_types
         → AreItems table signatures scope exit_types (alone gates (right_of scope gates a) i)
-    right_typed a h i k = by i.kind k
+    right_typed a i s = by i.kind s
       where
-        if_alone : (cs : Channels) (c : Bool) → IsItem table signatures scope exit_types (on cs) i.guards i.rest
+        if_alone : (cs : Channels) (c : Bool) → Sides (Is [] a) (Of_kind (on cs) i) exit_types
             → AreItems table signatures scope exit_types (cond c (record { kind = on cs; guards = i.guards; rest = right_of scope gates a (on cs) i.rest } ∷ []) [])
-        if_alone cs true q = ((q.0, q.1, (below, beside_typed exit_types (on cs) a h, q.2)), tt)
+        if_alone cs true q =
+            let l = some_right (Is [] a) (Of_kind (on cs) i) exit_types q in
+            (((l.1).0, (l.1).1, (below, ascend, sides_map (Is [] a) (Of_kind (on cs) i) (Is (types_over scope cs) (beside scope (on cs) a)) (Is (types_over scope cs) i.rest)
+            (λ ts k. beside_typed ts (on cs) a k) (λ ts k. k.2) exit_types q)), tt)
         if_alone cs false q = tt
 
-        by : (k : Kind) → IsItem table signatures scope exit_types k i.guards i.rest
+        by : (k : Kind) → Sides (Is [] a) (Of_kind k i) exit_types
             → AreItems table signatures scope exit_types (cond (goes_alone gates k) (record { kind = k; guards = i.guards; rest = right_of scope gates a k i.rest } ∷ []) [])
         by (on cs) q = if_alone cs (none_in gates cs) q
-        by within q = ((q.0, (below, beside_typed exit_types within a h, q.1)), tt)
+        by within q =
+            let l = some_right (Is [] a) (Of_kind within i) exit_types q in
+            (((l.1).0, (below, ascend, sides_map (Is [] a) (Of_kind within i) (Is [] (beside scope within a)) (Is [] i.rest)
+            (λ ts k. beside_typed ts within a k) (λ ts k. k.1) exit_types q)), tt)
         by (ending vs) q = tt
 
     among_carries : (all cs : Channels) → Within cs all → Carries table signatures (among scope all cs) (types_over scope cs) (types_over scope all)
@@ -103,43 +148,63 @@ module _ (table : Table) (signatures : Signatures) (scope : Scope) where
         item_guards_put table signatures (among scope all cs) (types_over scope cs) (types_over scope all) (moved_renames (places scope all cs) (width scope all))
         (carries_here table signatures (among scope all cs) (types_over scope cs) (types_over scope all) (among_carries all cs h)) gs k
 
-    among_term : (all cs : Channels) → Within cs all → (t : Term) → OfTerm table signatures scope (types_over scope cs) exit_types t
-        → OfTerm table signatures scope (types_over scope all) exit_types (put_term (among scope all cs) t)
-    among_term all cs h t k = put_term_typed table signatures t (among scope all cs) scope (types_over scope cs) (types_over scope all) exit_types (among_carries all cs h) k
+    among_term : (all cs : Channels) → Within cs all → (t : Term) (ts : List Ty) → OfTerm table signatures scope (types_over scope cs) ts t
+        → OfTerm table signatures scope (types_over scope all) ts (put_term (among scope all cs) t)
+    among_term all cs h t ts k = put_term_typed table signatures t (among scope all cs) scope (types_over scope cs) (types_over scope all) ts (among_carries all cs h) k
 
-    both_typed : (xs ys : Channels) (i j : Item) → IsItem table signatures scope exit_types (on xs) i.guards i.rest → IsItem table signatures scope exit_types (on ys) j.guards j.rest
+    both_typed : (xs ys : Channels) (i j : Item) → Sides (Of_kind (on xs) i) (Of_kind (on ys) j) exit_types
         → IsItemOf exit_types (join_on scope gates (union xs ys) xs ys i j)
-    both_typed xs ys i j h k =
+    both_typed xs ys i j q =
         let l = within_left xs ys in let r = within_right xs ys in
-        (union_below (length scope) xs ys h.0 k.0,
+        let h = some_left (Of_kind (on xs) i) (Of_kind (on ys) j) exit_types q in
+        let k = some_right (Of_kind (on xs) i) (Of_kind (on ys) j) exit_types q in
+        (union_below (length scope) xs ys (h.1).0 (k.1).0,
         item_guards_joined table signatures (types_over scope (union xs ys)) (put_all (among scope (union xs ys) xs) i.guards) (put_all (among scope (union xs ys) ys) j.guards)
-        (among_guards (union xs ys) xs l i.guards h.1) (among_guards (union xs ys) ys r j.guards k.1),
-        (below, among_term (union xs ys) xs l i.rest h.2, among_term (union xs ys) ys r j.rest k.2))
+        (among_guards (union xs ys) xs l i.guards (h.1).1) (among_guards (union xs ys) ys r j.guards (k.1).1),
+        (below, ascend, sides_map (Of_kind (on xs) i) (Of_kind (on ys) j)
+        (Is (types_over scope (union xs ys)) (put_term (among scope (union xs ys) xs) i.rest)) (Is (types_over scope (union xs ys)) (put_term (among scope (union xs ys) ys) j.rest))
+        (λ ts f. among_term (union xs ys) xs l i.rest ts f.2) (λ ts f. among_term (union xs ys) ys r j.rest ts f.2) exit_types q))
 
-    if_joined : (c : Bool) (i : Item) → IsItemOf exit_types i → AreItems table signatures scope exit_types (cond c (i ∷ []) [])
-    if_joined true i h = (h, tt)
+    if_joined : (c : Bool) (i : Item) → (c ≡ true → IsItemOf exit_types i) → AreItems table signatures scope exit_types (cond c (i ∷ []) [])
+    if_joined true i h = (h refl, tt)
     if_joined false i h = tt
 
     no_more : (gs hs : List Expr) → gs ≡ [] → hs ≡ [] → gs ++ hs ≡ []
     no_more gs hs e f = ap (λ l. l ++ hs) e ∙ f
 
-    kinds_typed : (k l : Kind) (i j : Item) → IsItem table signatures scope exit_types k i.guards i.rest → IsItem table signatures scope exit_types l j.guards j.rest
-        → AreItems table signatures scope exit_types (join_kinds scope gates k l i j)
-    kinds_typed (on xs) (on ys) i j h k = if_joined (joins gates xs ys) (join_on scope gates (union xs ys) xs ys i j) (both_typed xs ys i j h k)
-    kinds_typed (on xs) within i j h k = tt
-    kinds_typed (on xs) (ending ws) i j h k = tt
-    kinds_typed within l i j h k = tt
-    kinds_typed (ending vs) (on ys) i j h k = tt
-    kinds_typed (ending vs) within i j h k = tt
-    kinds_typed (ending vs) (ending ws) i j h k = if_joined (same_values vs ws) (join_ends vs i j) (no_more i.guards j.guards h.0 k.0, h.1, tt)
+    exit_typed : (vs ws : List Value) (i j : Item) → Sides (Of_kind (ending vs) i) (Of_kind (ending ws) j) exit_types → vs ≡ ws → HaveTypes table vs exit_types
+    exit_typed vs ws i j q e =
+        elim (some_whole (Of_kind (ending vs) i) (Of_kind (ending ws) j) exit_types q) [ inl k ↦ k.1 | inr k ↦ subst (λ us. HaveTypes table us exit_types) (sym e) k.1 ]
 
-    pub par_typed : (a b : Term) (is js : List Item) → OfTerm table signatures scope [] exit_types a → OfTerm table signatures scope [] exit_types b
-        → AreItems table signatures scope exit_types is → AreItems table signatures scope exit_types js → AreItems table signatures scope exit_types (par_items scope gates a b is js)
-    par_typed a b is js h k p q =
-        let first = items_gather exit_types exit_types (alone gates (left_of scope gates b)) (left_typed b k) is p in
-        let second = items_gather exit_types exit_types (alone gates (right_of scope gates a)) (right_typed a h) js q in
-        let third = items_gather exit_types exit_types (λ i. gather (join scope gates i) js)
-        (λ i g. items_gather exit_types exit_types (join scope gates i) (λ j f. kinds_typed i.kind j.kind i j g f) js q) is p in
+    ends_typed : (vs ws : List Value) (i j : Item) → Sides (Of_kind (ending vs) i) (Of_kind (ending ws) j) exit_types → same_values vs ws ≡ true
+        → IsItemOf exit_types (join_ends vs i j)
+    ends_typed vs ws i j q e =
+        let h = some_left (Of_kind (ending vs) i) (Of_kind (ending ws) j) exit_types q in
+        let k = some_right (Of_kind (ending vs) i) (Of_kind (ending ws) j) exit_types q in
+        (no_more i.guards j.guards (h.1).0 (k.1).0, exit_typed vs ws i j q (same_values-true vs ws e), tt)
+
+    kinds_typed : (k l : Kind) (i j : Item) → Sides (Of_kind k i) (Of_kind l j) exit_types
+        → AreItems table signatures scope exit_types (join_kinds scope gates k l i j)
+    kinds_typed (on xs) (on ys) i j q = if_joined (joins gates xs ys) (join_on scope gates (union xs ys) xs ys i j) (λ e. both_typed xs ys i j q)
+    kinds_typed (on xs) within i j q = tt
+    kinds_typed (on xs) (ending ws) i j q = tt
+    kinds_typed within l i j q = tt
+    kinds_typed (ending vs) (on ys) i j q = tt
+    kinds_typed (ending vs) within i j q = tt
+    kinds_typed (ending vs) (ending ws) i j q = if_joined (same_values vs ws) (join_ends vs i j) (ends_typed vs ws i j q)
+
+    pub par_typed : (a b : Term) (is js : List Item) → Sides (λ ts. Is [] a ts × Of_items is ts) (λ ts. Is [] b ts × Of_items js ts) exit_types
+        → AreItems table signatures scope exit_types (par_items scope gates a b is js)
+    par_typed a b is js q =
+        let L : List Ty → Type 0 = λ ts. Is [] a ts × Of_items is ts in
+        let R : List Ty → Type 0 = λ ts. Is [] b ts × Of_items js ts in
+        let first = gather_left (Is [] b) exit_types (alone gates (left_of scope gates b)) (left_typed b) is
+        (sides_map L R (Of_items is) (Is [] b) (λ ts k. k.1) (λ ts k. k.0) exit_types q) in
+        let second = gather_right (Is [] a) exit_types (alone gates (right_of scope gates a)) (right_typed a) js
+        (sides_map L R (Is [] a) (Of_items js) (λ ts k. k.0) (λ ts k. k.1) exit_types q) in
+        let third = gather_left (Of_items js) exit_types (λ i. gather (join scope gates i) js)
+        (λ i s. gather_right (Of_item i) exit_types (join scope gates i) (λ j r. kinds_typed i.kind j.kind i j r) js s) is
+        (sides_map L R (Of_items is) (Of_items js) (λ ts k. k.1) (λ ts k. k.1) exit_types q) in
         items_joined exit_types (gather (alone gates (left_of scope gates b)) is)
         (gather (alone gates (right_of scope gates a)) js ++ gather (λ i. gather (join scope gates i) js) is) first
         (items_joined exit_types (gather (alone gates (right_of scope gates a)) js) (gather (λ i. gather (join scope gates i) js) is) second third)

@@ -1,4 +1,4 @@
-use Rattle.txs_laws.proofs.typing.All.{facts}
+use Rattle.txs_laws.proofs.typing.Proved.{facts}
 use Rattle.txs_laws.proofs.solver.Decided.{points_have_cells}
 use Rattle.txs_laws.proofs.decided.points_have_cells.Goals as goal
 

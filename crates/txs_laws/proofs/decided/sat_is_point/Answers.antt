@@ -1,4 +1,4 @@
-use Rattle.txs_laws.proofs.typing.All.{facts}
+use Rattle.txs_laws.proofs.typing.Proved.{facts}
 use Rattle.txs_laws.proofs.solver.Decided.{sat_is_point}
 use Rattle.txs_laws.proofs.decided.sat_is_point.Goals as goal
 

@@ -1,4 +1,4 @@
-use Rattle.txs_laws.proofs.typing.All.{facts}
+use Rattle.txs_laws.proofs.typing.Proved.{facts}
 use Rattle.txs_laws.proofs.solver.Decided.{unsat_is_none}
 use Rattle.txs_laws.proofs.decided.unsat_is_none.Goals as goal
 

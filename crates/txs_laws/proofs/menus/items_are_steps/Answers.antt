@@ -1,5 +1,5 @@
 use Rattle.txs_laws.proofs.rules.Meaning.{menu_is_rules, prefixes_offer}
-use Rattle.txs_laws.proofs.typing.All.{facts}
+use Rattle.txs_laws.proofs.typing.Proved.{facts}
 use Rattle.txs_laws.proofs.menus.items_are_steps.Goals as goal
 
 pub returns : goal.returns

@@ -1,5 +1,5 @@
 use Rattle.txs_laws.proofs.rules.Closing.{closed_is_reached}
-use Rattle.txs_laws.proofs.typing.All.{facts}
+use Rattle.txs_laws.proofs.typing.Proved.{facts}
 use Rattle.txs_laws.proofs.rules.Meaning.{prefixes_offer}
 use Rattle.txs_laws.proofs.sets.closed_is_reached.Goals as goal
 

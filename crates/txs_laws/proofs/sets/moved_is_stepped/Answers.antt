@@ -1,5 +1,5 @@
 use Rattle.txs_laws.proofs.rules.Moving.{moved_is_stepped}
-use Rattle.txs_laws.proofs.typing.All.{facts}
+use Rattle.txs_laws.proofs.typing.Proved.{facts}
 use Rattle.txs_laws.proofs.rules.Meaning.{prefixes_offer}
 use Rattle.txs_laws.proofs.sets.moved_is_stepped.Goals as goal
 

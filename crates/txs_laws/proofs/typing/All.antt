@@ -1,4 +1,0 @@
-use Rattle.txs_laws.proofs.typing.Facts.{Facts}
-
-pub facts : Facts
-facts = ?
