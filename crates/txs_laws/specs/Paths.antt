@@ -1,6 +1,5 @@
 -- How long a path of a menu may be.
 use Rattle.std.specs.Prelude.{◌≡◌, ◌<◌, ◌≤◌, ℕ, ◌+◌, ◌*◌, max, List, [], ◌∷◌, ◌++◌, Some, slice_get}
-use Rattle.txs_terms.specs.Expr.{more}
 use Rattle.txs_terms.specs.Action.{Scope}
 use Rattle.txs_terms.specs.Term.{Term, stop, exits, prefix, step, guard, choice, par, enable, disable, interrupt, hide, call, bind, machine, hit, miss}
 use Rattle.txs_terms.specs.Rules.{Model}

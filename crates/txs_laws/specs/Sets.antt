@@ -1,12 +1,10 @@
 -- What closing a set and moving it mean.
 use Rattle.std.specs.Prelude.{◌↔◌, ℕ, List, [], ◌∷◌, Some}
-use Rattle.txs_terms.specs.Expr.{more}
 use Rattle.txs_terms.specs.Action.{Action, Scope, IsAction, act}
 use Rattle.txs_terms.specs.Term.{Term}
 use Rattle.txs_terms.specs.Rules.{Model, In, Step}
 use Rattle.txs_terms.specs.After.{Inners, Observable, Sync, acted}
 use Rattle.txs_terms.specs.Typed.{WellTyped}
-use Rattle.txs_terms.specs.Menu.{level}
 use Rattle.txs_terms.specs.Close.{Closes, MovesTo, closed}
 use Rattle.txs_terms.specs.Sets.{IsAfter}
 

@@ -16,7 +16,6 @@ use Rattle.txs_terms.specs.Action.{Scope}
 use Rattle.txs_terms.specs.Term.{take, Term, give, prefix, choice, call}
 use Rattle.txs_terms.specs.Rules.{Model}
 use Rattle.txs_terms.specs.Typed.{Signature, ProcessSignature, Signatures, AreTypes, Of, IsTable, ExitsWith, OfTerm, IsTypedModel, WellTyped, negation_of, made_by_of, select_of, val_of, slot_of, one_of, choose_of, apply_of, build_of, none_of, more_of'}
-use Rattle.txs_guard.specs.Mentioned.{constants}
 
 abbrev field : List ℕ → Ty → Field
 field name t = record { name = name; ty = t }
@@ -95,6 +94,7 @@ of_table = record { defaults = defaults; known = known }
     defaults : (k : ℕ) → k < 1 → (v : Value) × (default_if table (named k) ≡ Some v)
     defaults zero l = (cons 0 no_value, refl)
     defaults (suc k) l = absurd (omega arith)
+
     known : (c : ℕ) (p : Place) → place_of table c ≡ Some p → Known p
     known zero p e = subst Known (some_same e) tt
     known (suc zero) p e = subst Known (some_same e) (tt, (omega arith, tt))
@@ -112,16 +112,24 @@ add_of =
     (more_of' (apply_of refl (more_of' (slot_of refl) (more_of' (one_of (select_of 1 1 0 (named 0) cell cell_place refl) (slot_of refl)) none_of))) none_of)))
 
 of_calls : (slots : List Ty) (e : Expr) (exit_types : List Ty) → Of table signatures slots [] e (named 0) → OfTerm table signatures scope slots exit_types (calls e)
-of_calls slots e exit_types o =
-    (record { formals = scope; takes = named 0 ∷ []; exit_types = None }, refl,
-    (omega arith, refl, (omega arith, refl, tt)), (o, tt), tt)
+of_calls slots e exit_types o = (
+  record { formals = scope; takes = named 0 ∷ []; exit_types = None },
+  refl,
+  (omega arith, refl, (omega arith, refl, tt)),
+  (o, tt),
+  tt,
+)
 
 of_body : (exit_types : List Ty) → OfTerm table signatures scope (named 0 ∷ []) exit_types body
-of_body exit_types =
-    (((omega arith, tt, tt), tt, of_calls _ _ exit_types (apply_of refl (more_of' (slot_of refl) (more_of' (slot_of refl) none_of))), refl),
-    ((omega arith, (one_of (select_of 1 0 0 whole cell cell_place refl) (slot_of refl), tt), tt),
+of_body exit_types = (
+  ((omega arith, tt, tt), tt, of_calls _ _ exit_types (apply_of refl (more_of' (slot_of refl) (more_of' (slot_of refl) none_of))), refl),
+  (
+    (omega arith, (one_of (select_of 1 0 0 whole cell cell_place refl) (slot_of refl), tt), tt),
     (one_of negation_of (one_of (made_by_of 0 0 nil nil_place) (slot_of refl)), tt),
-    of_calls _ _ exit_types (one_of (select_of 1 1 0 (named 0) cell cell_place refl) (slot_of refl)), refl))
+    of_calls _ _ exit_types (one_of (select_of 1 1 0 (named 0) cell cell_place refl) (slot_of refl)),
+    refl,
+  ),
+)
 
 AddHas : Signature → Type 0
 AddHas s = (e : Expr) × (slice_get queue.defs.functions 0 ≡ Some e) × Of table signatures s.takes [] e s.gives

@@ -1,12 +1,11 @@
 -- The actual channels stand for the formal ones, and the channels of the body's HIDEs above all that are in scope.
-use Rattle.std.proofs.Common.{◌≡◌, ℕ, zero, suc, ◌+◌, ◌<◌, List, [], ◌∷◌, length, Some, refl, ap, ◌∙◌, arith}
+use Rattle.std.proofs.Common.{◌≡◌, ℕ, zero, suc, ◌+◌, ◌<◌, [], ◌∷◌, length, Some, refl, ap, ◌∙◌, arith}
 use Rattle.std.specs.Prelude.{slice_get}
-use Rattle.txs_values.specs.Value.{Value}
 use Rattle.txs_terms.specs.Action.{Channels, Scope}
-use Rattle.txs_terms.specs.Term.{Term, channel_at, with_channels, instance}
+use Rattle.txs_terms.specs.Term.{Term, channel_at, with_channels}
 use Rattle.txs_terms.specs.Expr.{filled}
 use Rattle.txs_terms.specs.Typed.{FitChannels}
-use Rattle.txs_laws.specs.Channels.{Stands, NoChannelIsCaptured}
+use Rattle.txs_laws.specs.Channels.{NoChannelIsCaptured}
 use Rattle.txs_laws.proofs.instances.Names.{names_put, gates_put, hidden_put, names_with, gates_with, hidden_with}
 
 -- a formal channel is the actual one, which is in scope
@@ -31,11 +30,13 @@ bound_at scope (x ∷ cs) (ts ∷ formals) k fit =
 pub no_channel_is_captured : NoChannelIsCaptured
 no_channel_is_captured scope formals cs vs body fit =
     let become : ℕ → ℕ = channel_at cs (length scope) in
-    let t : Term = with_channels become body in
-    (become, record {
-      names = names_put (filled vs) t ∙ names_with become body;
-      gates = gates_put (filled vs) t ∙ gates_with become body;
-      hides = hidden_put (filled vs) t ∙ hidden_with become body;
-      formal = λ c h. formal_at scope cs formals c fit h;
-      bound = λ k. bound_at scope cs formals k fit;
-    })
+    let t : Term = with_channels become body in (
+      become,
+      record {
+        names = names_put (filled vs) t ∙ names_with become body;
+        gates = gates_put (filled vs) t ∙ gates_with become body;
+        hides = hidden_put (filled vs) t ∙ hidden_with become body;
+        formal = λ c h. formal_at scope cs formals c fit h;
+        bound = λ k. bound_at scope cs formals k fit;
+      },
+    )

@@ -2,7 +2,6 @@
 use Rattle.std.proofs.Common.{◌≡◌, ℕ, ◌<◌, Bool, true, false, cond, eqb, ltb, inl, inr, [], ◌∷◌, refl, sym, arith}
 use Rattle.std.proofs.lemmas.Bool.{eqb-true, eq-eqb, or_left, or_right, or_cases, ltb-true, ltb-false, eqb-false}
 use Rattle.txs_terms.specs.Action.{Channels, has, with_channel, union, kept, AllAbove, Ascending, is_empty, in_order}
-
 use Rattle.txs_laws.proofs.rules.Places.{Within}
 
 has_self : (c : ℕ) (xs : Channels) → has (c ∷ xs) c ≡ true

@@ -1,7 +1,7 @@
 -- Channels in scope, and the values of a typed action on its channels.
-use Rattle.std.proofs.Common.{◌≡◌, ◌<◌, ℕ, Bool, true, false, cond, eqb, ltb, ◌||◌, List, [], ◌∷◌, ◌++◌, length, inl, inr, refl, sym, ap, ◌∙◌, subst, eqb-true, eq-eqb, ltb-true}
+use Rattle.std.proofs.Common.{◌≡◌, ◌<◌, ℕ, Bool, true, false, cond, eqb, ltb, ◌||◌, [], ◌∷◌, inl, inr, refl, sym, ap, subst, eqb-true, eq-eqb, ltb-true}
 use Rattle.std.proofs.lemmas.Bool.{or_left, or_right, or_cases}
-use Rattle.txs_values.specs.Value.{Value, Ty, Table, HaveTypes}
+use Rattle.txs_values.specs.Value.{Table, HaveTypes}
 use Rattle.txs_terms.specs.Action.{Part, Action, channels, values_on, values_over, part_of, Channels, has, with_channel, union, kept, Scope, types_on, types_over, IsTyped, in_order}
 use Rattle.txs_terms.specs.Rules.{visible}
 use Rattle.txs_terms.specs.Typed.{AllBelow}

@@ -1,8 +1,8 @@
 -- The default of a type of the table is of the type.
-use Rattle.std.proofs.Common.{◌≡◌, ℕ, zero, suc, ◌+◌, pos, Bool, true, false, cond, List, [], ◌∷◌, length, map, refl, sym, ap, ◌∙◌, arith}
+use Rattle.std.proofs.Common.{◌≡◌, ℕ, zero, suc, ◌+◌, pos, true, false, List, [], ◌∷◌, length, map, refl, sym, ap, ◌∙◌, arith}
 use Rattle.std.specs.Prelude.{Option, Some, None, slice_get}
-use Rattle.std.proofs.lemmas.Bool.{and_from, eq-eqb}
-use Rattle.txs_values.specs.Value.{Ty, whole, truth, string, named, Value, num, bool, text, cons, packed, Table, TypeDef, Constructor, Field, Place, place_of, place_from, fits, has_type, has_fields, field_types, fields_in, HasType}
+use Rattle.std.proofs.lemmas.Bool.{and_from}
+use Rattle.txs_values.specs.Value.{Ty, whole, truth, string, named, Value, num, bool, text, cons, packed, Table, TypeDef, Constructor, Field, place_of, place_from, fits, has_type, has_fields, field_types, HasType}
 use Rattle.txs_values.specs.Default.{all_defaults, first_made, ranked, next_round, rounds, default_if, or_zero, default_of}
 use Rattle.txs_terms.specs.Typed.{IsType, IsTable}
 use Rattle.txs_laws.proofs.typing.Numbers.{place_at, among_these, StandsAt, stands_first, stands_next, fields_same}

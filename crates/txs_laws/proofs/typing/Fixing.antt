@@ -1,19 +1,18 @@
 -- Under HIDE the slots of hidden channels get values of their types, and the slots that are left are numbered anew.
 use Rattle.std.specs.Prelude.{Option, Some, None, slice_get}
 use Rattle.std.proofs.Common.{◌≡◌, ◌<◌, ◌≤◌, ℕ, zero, suc, ◌+◌, ◌-◌, Bool, true, false, cond, not, ◌&&◌, ◌||◌, eqb, ltb, List, [], ◌∷◌, ◌++◌, length, refl, sym, ap, ◌∙◌, subst, arith, eqb-true, eq-eqb, ltb-true, ltb-false}
-use Rattle.std.proofs.lemmas.Bool.{and_parts}
-use Rattle.txs_values.specs.Value.{Ty, Value, Table, HasType, truth}
+use Rattle.txs_values.specs.Value.{Ty, Value, HasType, truth}
 use Rattle.txs_terms.specs.Expr.{Expr, val, slot, local, constant, one, two, equal, both, either, choose, apply, build, let_in, Puts, put, put_all, has_slot}
-use Rattle.txs_terms.specs.Eval.{Defs, Run, got, bad, eval, height_limit, run}
-use Rattle.txs_terms.specs.Action.{Channels, has, kept, Scope, from}
-use Rattle.txs_terms.specs.Term.{Term, put_term}
-use Rattle.txs_terms.specs.Typed.{Signatures, Of, val_of, slot_of, equal_of, AreTyped, AreGuards, OfTerm}
-use Rattle.txs_terms.specs.Menu.{Item, fix_by, or_else, fix_right, fix_equal, fix_of, next_fix, only, put_in, is_loose, Fixed, unable, fixed, fix_value, fix_at, less, fix_all, unfixed, position, closed_up, with_slots, loose_slots}
+use Rattle.txs_terms.specs.Eval.{Defs, Run, got, bad, height_limit, run}
+use Rattle.txs_terms.specs.Action.{has, kept, from}
+use Rattle.txs_terms.specs.Term.{put_term}
+use Rattle.txs_terms.specs.Typed.{Signatures, Of, val_of, slot_of, AreTyped, AreGuards}
+use Rattle.txs_terms.specs.Menu.{Item, fix_by, or_else, fix_right, fix_equal, fix_of, next_fix, only, put_in, is_loose, unable, fixed, fix_value, fix_at, less, fix_all, unfixed, position, closed_up, with_slots, loose_slots}
 use Rattle.txs_laws.specs.Items.{AreItemGuards}
 use Rattle.txs_laws.proofs.typing.Lists.{same_some, member_front, member_past, member_before}
 use Rattle.txs_laws.proofs.typing.Putting.{Suits, put_typed}
 use Rattle.txs_laws.proofs.typing.Puts.{then_put, put_put, put_put_all, put_put_term, put_slots_all, put_slots_term}
-use Rattle.txs_laws.proofs.typing.Terms.{Carries, carries_here, put_guards}
+use Rattle.txs_laws.proofs.typing.Terms.{Carries, put_guards}
 use Rattle.txs_laws.proofs.typing.Slots.{Points, points-length, Renames, renamed_slots, without_slot}
 use Rattle.txs_laws.proofs.typing.Runs.{run_well, EndsWell}
 
@@ -211,9 +210,11 @@ module _ (defs : Defs) (signatures : Signatures) (typed : AreTyped defs signatur
       by true q =
           let e : s ≡ i = eqb-true s i q in
           let a : has loose i ≡ true = subst (λ j. has loose j ≡ true) e l in
-          subst (PutsAt (then_put f (only s v)) i) (sym a)
-          (v, ap (λ b. put f (cond b (val v) (slot i))) q,
-          λ u g. let same : t ≡ u = same_some (sym h ∙ (ap (slice_get slots) e ∙ g)) in subst (HasType defs.table v) same k)
+          subst (PutsAt (then_put f (only s v)) i) (sym a) (
+            v,
+            ap (λ b. put f (cond b (val v) (slot i))) q,
+            λ u g. let same : t ≡ u = same_some (sym h ∙ (ap (slice_get slots) e ∙ g)) in subst (HasType defs.table v) same k,
+          )
       by false q =
           let a : has (less s loose) i ≡ has loose i = less_other s i loose q in
           let r : f i ≡ then_put f (only s v) i = ap (λ b. put f (cond b (val v) (slot i))) (sym q) in
@@ -226,18 +227,21 @@ module _ (defs : Defs) (signatures : Signatures) (typed : AreTyped defs signatur
   settled_value : (n : ℕ) (loose : List ℕ) (i j : Item) (p : ℕ × Expr) → has loose p.0 ≡ true → (t : Ty) → slice_get slots p.0 ≡ Some t
       → (r : Run) → EndsWell defs.table t r → AreGuards defs.table signatures slots i.guards
       → ((v : Value) → AreGuards defs.table signatures slots (put_in p.0 v i).guards
-          → fix_all defs n (less p.0 loose) (put_in p.0 v i) ≡ fixed j → Settled (less p.0 loose) (put_in p.0 v i) j)
+      → fix_all defs n (less p.0 loose) (put_in p.0 v i) ≡ fixed j → Settled (less p.0 loose) (put_in p.0 v i) j)
       → fix_value r (λ v. fix_all defs n (less p.0 loose) (put_in p.0 v i)) ≡ fixed j → Settled loose i j
   settled_value n loose i j p l t h (bad f) k g go e = cc
   settled_value n loose i j p l t h (got v m) k g go e =
       let suits : Suits defs.table signatures (only p.0 v) slots slots = only_suits p.0 v t h k in
-      let r = go v (put_guards defs.table signatures (only p.0 v) slots slots suits i.guards g) e in
-      (then_put r.0 (only p.0 v), and_only loose p.0 v t r.0 l h k r.1,
-      r.2 ∙ put_put_all r.0 (only p.0 v) i.guards, r.3 ∙ put_put_term r.0 (only p.0 v) i.rest)
+      let r = go v (put_guards defs.table signatures (only p.0 v) slots slots suits i.guards g) e in (
+        then_put r.0 (only p.0 v),
+        and_only loose p.0 v t r.0 l h k r.1,
+        r.2 ∙ put_put_all r.0 (only p.0 v) i.guards,
+        r.3 ∙ put_put_term r.0 (only p.0 v) i.rest,
+      )
 
   settled_at : (n : ℕ) (loose : List ℕ) (i j : Item) (o : Option (ℕ × Expr)) → IfFix loose o → AreGuards defs.table signatures slots i.guards
       → ((s : ℕ) (v : Value) → AreGuards defs.table signatures slots (put_in s v i).guards
-          → fix_all defs n (less s loose) (put_in s v i) ≡ fixed j → Settled (less s loose) (put_in s v i) j)
+      → fix_all defs n (less s loose) (put_in s v i) ≡ fixed j → Settled (less s loose) (put_in s v i) j)
       → fix_at defs o (λ s v. fix_all defs n (less s loose) (put_in s v i)) ≡ fixed j → Settled loose i j
   settled_at n loose i j None h g go e = cc
   settled_at n loose i j (Some p) h g go e =
@@ -246,9 +250,12 @@ module _ (defs : Defs) (signatures : Signatures) (typed : AreTyped defs signatur
   settled_none : (loose : List ℕ) (i j : Item) → is_loose loose ≡ false → fixed i ≡ fixed j → Settled loose i j
   unfolding Settles
   settled_none loose i j l e =
-      let q : i ≡ j = same e in
-      (slot, (λ k. subst (λ x. PutsAt slot k (has x k)) (sym (none_loose loose l)) refl),
-      ap (λ (x : Item). x.guards) (sym q) ∙ sym (put_slots_all i.guards), ap (λ (x : Item). x.rest) (sym q) ∙ sym (put_slots_term i.rest))
+      let q : i ≡ j = same e in (
+        slot,
+        (λ k. subst (λ x. PutsAt slot k (has x k)) (sym (none_loose loose l)) refl),
+        ap (λ (x : Item). x.guards) (sym q) ∙ sym (put_slots_all i.guards),
+        ap (λ (x : Item). x.rest) (sym q) ∙ sym (put_slots_term i.rest),
+      )
     where
       same : {x y : Item} → fixed x ≡ fixed y → x ≡ y
       same p = cc
@@ -315,7 +322,9 @@ module _ (defs : Defs) (signatures : Signatures) (typed : AreTyped defs signatur
       where
         by : (b : Bool) → has_slot (put f g) ≡ b → AreItemGuards defs.table signatures others (put_all (closed_up ps size) (with_slots (put_all f gs)))
             → AreItemGuards defs.table signatures others (put_all (closed_up ps size) (cond b (put f g ∷ with_slots (put_all f gs)) (with_slots (put_all f gs))))
-        by true q r =
-            (subst (λ x. Of defs.table signatures others [] x truth) (sym (put_put (closed_up ps size) f g)) (put_typed defs.table signatures h.0 (then_put (closed_up ps size) f) others c),
-            renamed_slots (closed_up ps size) (closed_renames ps size) (put f g) ∙ q, r)
+        by true q r = (
+          subst (λ x. Of defs.table signatures others [] x truth) (sym (put_put (closed_up ps size) f g)) (put_typed defs.table signatures h.0 (then_put (closed_up ps size) f) others c),
+          renamed_slots (closed_up ps size) (closed_renames ps size) (put f g) ∙ q,
+          r,
+        )
         by false q r = r

@@ -1,21 +1,21 @@
 -- The items of the walk of a well typed term are well typed.
 use Rattle.std.specs.Prelude.{Option, Some, None, slice_get}
-use Rattle.std.proofs.Common.{◌≡◌, ◌<◌, ℕ, zero, suc, ◌+◌, Bool, true, false, cond, ltb, inl, inr, List, [], ◌∷◌, ◌++◌, map, length, refl, sym, ap, ◌∙◌, subst, arith}
-use Rattle.txs_values.specs.Value.{Ty, Value, Table, HaveTypes}
-use Rattle.txs_terms.specs.Expr.{Expr, Puts, put_all}
+use Rattle.std.proofs.Common.{◌≡◌, ℕ, zero, suc, ◌+◌, Bool, true, false, cond, ltb, inl, inr, List, [], ◌∷◌, ◌++◌, map, length, refl, sym, ap, ◌∙◌, subst}
+use Rattle.txs_values.specs.Value.{Ty, Table}
+use Rattle.txs_terms.specs.Expr.{Expr, put_all}
 use Rattle.txs_terms.specs.Eval.{Defs}
 use Rattle.txs_terms.specs.Action.{Channels, Scope, types_on, types_over, in_order, Ascending}
-use Rattle.txs_terms.specs.Term.{Offer, Term, stop, exits, prefix, step, guard, choice, par, enable, disable, interrupt, hide, call, bind, machine, hit, miss, put_term, fill, instance, channels_bound, Move, offering, silent, Automaton, move_term}
+use Rattle.txs_terms.specs.Term.{Offer, Term, stop, exits, prefix, step, guard, choice, par, enable, disable, interrupt, hide, call, bind, machine, hit, miss, put_term, fill, instance, channels_bound, Move, Automaton, move_term}
 use Rattle.txs_terms.specs.Rules.{Model, In, HasMove, offered, visible}
-use Rattle.txs_terms.specs.Typed.{Signatures, AreTyped, AreGuards, FitOffers, AllBelow, AreScope, OfTerm, IsTypedModel, ExitsWith}
-use Rattle.txs_terms.specs.Menu.{Kind, on, within, ending, Item, Verdict, holds, fails, faults, Walk, faulted, walked, wide, path_limit, walk_limit, channel_limit, then_walk, too_many, capped, where_holds, where_some, all_values, bound_values, prefix_item, places, width, par_items, pass, disabled, interrupted, back_to, closed_up, fix_all, Fixed, unable, fixed, with_slots, strip, shown_kind, Hidden, bad_item, left_with, strip_by, strip_fixed, loose_slots, hide_on, hide_kind, and_hidden, hide_all, hidden_walk, body_walk, Walks, prefix_level, step_level, move_level, each_move, state_walk, machine_walk, level, walk, menu, judge, without_slots, all_fixes}
+use Rattle.txs_terms.specs.Typed.{Signatures, AreTyped, AllBelow, AreScope, OfTerm, IsTypedModel}
+use Rattle.txs_terms.specs.Menu.{Kind, on, within, ending, Item, Verdict, holds, fails, faults, Walk, faulted, walked, wide, path_limit, walk_limit, channel_limit, then_walk, too_many, capped, where_holds, where_some, all_values, bound_values, places, width, par_items, pass, disabled, interrupted, back_to, closed_up, fix_all, Fixed, unable, fixed, with_slots, strip, shown_kind, Hidden, bad_item, left_with, strip_by, strip_fixed, loose_slots, hide_kind, and_hidden, hide_all, hidden_walk, body_walk, Walks, prefix_level, step_level, move_level, each_move, state_walk, machine_walk, level, walk, judge, without_slots, all_fixes}
 use Rattle.txs_laws.proofs.typing.Sides.{sides_map, Sides}
 use Rattle.txs_laws.specs.Items.{AreItemGuards, IsItem, AreItems, ItemsAreTyped}
 use Rattle.txs_laws.proofs.typing.Lists.{same_some}
 use Rattle.txs_laws.proofs.typing.Puts.{then_put, put_put_term}
 use Rattle.txs_laws.proofs.typing.Runs.{values_typed, bound_typed}
 use Rattle.txs_laws.proofs.typing.Terms.{Carries, carries_here, put_term_typed, fill_typed, instance_typed, types_front}
-use Rattle.txs_laws.proofs.typing.Channels.{Within, within_kept, visible_below}
+use Rattle.txs_laws.proofs.typing.Channels.{within_kept, visible_below}
 use Rattle.txs_laws.proofs.typing.Slots.{Points, points_places, width_types, no_guards, plain_guards}
 use Rattle.txs_laws.proofs.typing.Fixing.{Settled, settled, closed_carries, closed_guards}
 use Rattle.txs_laws.proofs.typing.Walks.{items_joined, items_map, IsItemOf, par_typed, pass_typed, disabled_typed, interrupted_typed, back_typed, prefix_typed}

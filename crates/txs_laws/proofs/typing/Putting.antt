@@ -1,8 +1,8 @@
 -- Expressions put for the slots of a well typed one, and a value put for its first local.
 use Rattle.std.specs.Prelude.{slice_get, Some}
-use Rattle.std.proofs.Common.{◌≡◌, ℕ, zero, suc, ◌+◌, List, [], ◌∷◌, ◌++◌, refl, sym, ap, ◌∙◌, subst}
+use Rattle.std.proofs.Common.{◌≡◌, ℕ, zero, suc, List, [], ◌∷◌, ◌++◌, sym, ap, ◌∙◌, subst}
 use Rattle.txs_values.specs.Value.{Ty, Value, Table, HasType, HaveTypes}
-use Rattle.txs_terms.specs.Expr.{Expr, slot, Exprs, Puts, put, put_each, filled, local_at, with_local, each_with_local}
+use Rattle.txs_terms.specs.Expr.{Expr, Exprs, Puts, put, put_each, filled, local_at, with_local, each_with_local}
 use Rattle.txs_terms.specs.Typed.{Signatures, Of, Ofs, val_of, slot_of, local_of, constant_of, one_of, two_of, equal_of, both_of, either_of, choose_of, apply_of, build_of, let_of, none_of, more_of'}
 use Rattle.txs_laws.proofs.typing.Lists.{same_some, no_member}
 

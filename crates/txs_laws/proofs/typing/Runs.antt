@@ -1,9 +1,9 @@
 -- A well typed expression ends with a value of its type, or with a fault that it may have.
 use Rattle.std.specs.Prelude.{Option, Some, slice_get}
 use Rattle.std.proofs.Common.{◌≡◌, ◌≢◌, ℕ, zero, suc, Bool, true, false, cond, ltb, List, [], ◌∷◌, ◌++◌, refl, sym, ap, ◌∙◌, subst}
-use Rattle.txs_values.specs.Value.{Ty, truth, named, Value, num, bool, text, cons, packed, Table, place_of, field_types, has_fields, same_value, HasType, HaveTypes}
+use Rattle.txs_values.specs.Value.{Ty, truth, named, Value, num, bool, text, cons, packed, Table, field_types, has_fields, same_value, HasType, HaveTypes}
 use Rattle.txs_terms.specs.Expr.{Expr, Exprs, put, filled, with_local}
-use Rattle.txs_terms.specs.Eval.{Defs, Fault, wrong, long, Run, got, bad, Runs, gots, bads, Eval, Outcome, fine, broken, sized, unary, binary, after, then_run, then_runs, with_first, cons_run, each, if_true, body_run, node, run, node_limit, height_limit}
+use Rattle.txs_terms.specs.Eval.{Defs, wrong, long, Run, got, bad, Runs, gots, bads, Eval, Outcome, fine, broken, sized, unary, binary, after, then_run, then_runs, with_first, cons_run, each, if_true, body_run, node, run, node_limit, height_limit}
 use Rattle.txs_terms.specs.Typed.{Signatures, Of, Ofs, val_of, slot_of, local_of, constant_of, one_of, two_of, equal_of, both_of, either_of, choose_of, apply_of, build_of, let_of, none_of, more_of', AreTyped, OfEach, OfBindings}
 use Rattle.txs_terms.specs.Menu.{all_values, bound_values, with_value, then_bound, with_front}
 use Rattle.txs_laws.specs.Items.{RunsAreTyped}

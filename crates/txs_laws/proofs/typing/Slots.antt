@@ -1,6 +1,6 @@
 -- Slots moved to places of the same types, and expressions that have slots or have none.
 use Rattle.std.specs.Prelude.{Some, slice_get}
-use Rattle.std.proofs.Common.{◌≡◌, ◌<◌, ◌≤◌, ℕ, zero, suc, ◌+◌, ◌-◌, Bool, true, false, cond, ◌||◌, eqb, ltb, List, [], ◌∷◌, ◌++◌, length, refl, sym, ap, ◌∙◌, subst, arith, eqb-true, length-append}
+use Rattle.std.proofs.Common.{◌≡◌, ℕ, zero, suc, ◌+◌, Bool, true, false, cond, ◌||◌, eqb, List, [], ◌∷◌, ◌++◌, length, refl, sym, ap, ◌∙◌, subst, arith, eqb-true, length-append}
 use Rattle.std.proofs.lemmas.Bool.{or_parts, or_from}
 use Rattle.txs_values.specs.Value.{Ty, Table}
 use Rattle.txs_terms.specs.Expr.{Expr, val, slot, local, constant, one, two, equal, both, either, choose, apply, build, let_in, Exprs, none, more, Puts, put, put_each, put_all, moved, has_slot, any_has_slot}
@@ -10,7 +10,7 @@ use Rattle.txs_terms.specs.Menu.{width, start, places}
 use Rattle.txs_laws.specs.Items.{AreItemGuards}
 use Rattle.txs_laws.proofs.typing.Lists.{joined_again, no_member, member_front, member_past}
 use Rattle.txs_laws.proofs.typing.Putting.{put_typed, Suits}
-use Rattle.txs_laws.proofs.typing.Terms.{Carries, carries_here}
+use Rattle.txs_laws.proofs.typing.Terms.{Carries}
 use Rattle.txs_laws.proofs.typing.Channels.{Within}
 
 -- ---- places with types
@@ -36,10 +36,11 @@ points_joined others (p ∷ ps) qs (t ∷ ts) us h k = (h.0, points_joined other
 
 points_from : (us ts vs : List Ty) (i : ℕ) → i ≡ length us → Points (us ++ (ts ++ vs)) (from i (length ts)) ts
 points_from us [] vs i e = tt
-points_from us (t ∷ ts) vs i e =
-    (member_past us (t ∷ (ts ++ vs)) 0 i (omega arith),
-    subst (λ l. Points l (from (suc i) (length ts)) ts) (joined_again us (t ∷ []) (ts ++ vs))
-    (points_from (us ++ t ∷ []) ts vs (suc i) (let q = length-append us (t ∷ []) in omega arith)))
+points_from us (t ∷ ts) vs i e = (
+  member_past us (t ∷ (ts ++ vs)) 0 i (omega arith),
+  subst (λ l. Points l (from (suc i) (length ts)) ts) (joined_again us (t ∷ []) (ts ++ vs))
+      (points_from (us ++ t ∷ []) ts vs (suc i) (let q = length-append us (t ∷ []) in omega arith)),
+)
 
 points_on : (scope : Scope) (all : Channels) (c i : ℕ) (past : List Ty) → has all c ≡ true → i ≡ length past + start scope all c
     → Points (past ++ types_over scope all) (from i (arity scope c)) (types_on scope c)
@@ -48,7 +49,7 @@ points_on scope (x ∷ xs) c i past h e = by (eqb x c) refl h e (λ k q. points_
   where
     by : (b : Bool) → eqb x c ≡ b → (b || has xs c) ≡ true → i ≡ length past + cond b 0 (arity scope x + start scope xs c)
         → (has xs c ≡ true → i ≡ length (past ++ types_on scope x) + start scope xs c
-            → Points ((past ++ types_on scope x) ++ types_over scope xs) (from i (arity scope c)) (types_on scope c))
+        → Points ((past ++ types_on scope x) ++ types_over scope xs) (from i (arity scope c)) (types_on scope c))
         → Points (past ++ (types_on scope x ++ types_over scope xs)) (from i (arity scope c)) (types_on scope c)
     by true q k f go =
         subst (λ y. Points (past ++ (types_on scope x ++ types_over scope xs)) (from i (arity scope y)) (types_on scope y)) (eqb-true x c q)

@@ -1,13 +1,12 @@
 -- A step of a well typed term is within its scope and leads to a well typed term.
-use Rattle.std.specs.Prelude.{Some, None, slice_get}
-use Rattle.std.proofs.Common.{◌≡◌, ◌<◌, ℕ, zero, suc, List, [], ◌∷◌, ◌++◌, length, refl, sym, ap, ◌∙◌, subst, inl, inr}
+use Rattle.std.proofs.Common.{◌≡◌, List, [], ◌∷◌, ◌++◌, length, refl, sym, ◌∙◌, subst, inl, inr}
 use Rattle.txs_values.specs.Value.{Ty, Value, HaveTypes}
 use Rattle.txs_terms.specs.Expr.{Expr, put, filled}
 use Rattle.txs_terms.specs.Eval.{Defs, height_limit}
-use Rattle.txs_terms.specs.Action.{Label, act, inner, ends, channels, values_over, part_of, Scope, types_over, IsAction, in_order}
-use Rattle.txs_terms.specs.Term.{Offer, Term, fill, instance, move_term}
+use Rattle.txs_terms.specs.Action.{Label, channels, values_over, Scope, types_over}
+use Rattle.txs_terms.specs.Term.{Offer, Term, move_term}
 use Rattle.txs_terms.specs.Rules.{Model, AllGive, AllBind, Step, offers, steps, exit, guarded, choose_left, choose_right, left_alone, right_alone, left_inner, right_inner, joined, both_end, before, before_inner, passes, left_goes_on, left_inner_on, left_ends, takes_over, undisturbed, undisturbed_inner, undisturbed_ends, interrupts, interrupts_inner, returns, shown, hidden, hide_inner, hide_ends, unfold', binds, moves, offered, visible}
-use Rattle.txs_terms.specs.Typed.{Signatures, AreTyped, OfEach, OfBindings, FitOffers, AllBelow, OfTerm, IsTypedModel, ExitsWith}
+use Rattle.txs_terms.specs.Typed.{Signatures, AreTyped, OfEach, OfBindings, FitOffers, AllBelow, OfTerm, IsTypedModel}
 use Rattle.txs_laws.proofs.typing.Sides.{sides_map, some_left, some_right, some_whole}
 use Rattle.txs_laws.specs.Items.{StaysWithin, StepsAreTyped}
 use Rattle.txs_laws.proofs.typing.Lists.{same_some, have_joined}
@@ -48,10 +47,11 @@ module _ (model : Model) (signatures : Signatures) (typed : IsTypedModel model s
   steps_typed : {scope : Scope} {t t' : Term} {l : Label} → Step model scope t l t' → (exit_types : List Ty)
       → OfTerm model.defs.table signatures scope [] exit_types t
       → StaysWithin model.defs.table scope exit_types l × OfTerm model.defs.table signatures scope [] exit_types t'
-  steps_typed {scope = scope} (offers {os = os} {gs = gs} {t = t} a e k m g) exit_types h =
-      (subst (AllBelow (length scope)) (sym e) (union_below (length scope) (offered os) [] (offered_below scope [] os h.0) tt),
-      fill_typed model.defs.table signatures scope (types_over scope (offered os)) exit_types (values_over a (offered os)) t
-      (typed_over model.defs.table scope a (offered os) k.typed (subst (Within (offered os)) (sym e) (within_order (offered os)))) h.2)
+  steps_typed {scope = scope} (offers {os = os} {gs = gs} {t = t} a e k m g) exit_types h = (
+    subst (AllBelow (length scope)) (sym e) (union_below (length scope) (offered os) [] (offered_below scope [] os h.0) tt),
+    fill_typed model.defs.table signatures scope (types_over scope (offered os)) exit_types (values_over a (offered os)) t
+        (typed_over model.defs.table scope a (offered os) k.typed (subst (Within (offered os)) (sym e) (within_order (offered os)))) h.2,
+  )
   steps_typed (steps g) exit_types h = (tt, h.1)
   steps_typed (exit {es = es} vs g) exit_types h = (given_typed model.defs signatures typed.defs es exit_types vs h g, tt)
   steps_typed (guarded g s) exit_types h = steps_typed s exit_types h.1
@@ -68,10 +68,11 @@ module _ (model : Model) (signatures : Signatures) (typed : IsTypedModel model s
   steps_typed {scope = scope} (right_inner {a = a} {b = b} {b' = b'} s) exit_types h =
       (tt, (h.0, h.1, sides_map (Is scope a) (Is scope b) (Is scope a) (Is scope b') (λ ts k. k) (λ ts k. (steps_typed s ts k).1) exit_types h.2))
   steps_typed {scope = scope} (joined {a = a} {b = b} {a' = a'} {b' = b'} x xs ys j e k s r) exit_types h =
-      let l = some_left (Is scope a) (Is scope b) exit_types h.2 in let m = some_right (Is scope a) (Is scope b) exit_types h.2 in
-      (subst (AllBelow (length scope)) (sym e) (union_below (length scope) xs ys
-      (subst (AllBelow (length scope)) (channels_part x xs) (steps_typed s l.0 l.1).0) (subst (AllBelow (length scope)) (channels_part x ys) (steps_typed r m.0 m.1).0)),
-      (h.0, h.1, sides_map (Is scope a) (Is scope b) (Is scope a') (Is scope b') (λ ts f. (steps_typed s ts f).1) (λ ts f. (steps_typed r ts f).1) exit_types h.2))
+      let l = some_left (Is scope a) (Is scope b) exit_types h.2 in let m = some_right (Is scope a) (Is scope b) exit_types h.2 in (
+        subst (AllBelow (length scope)) (sym e) (union_below (length scope) xs ys
+            (subst (AllBelow (length scope)) (channels_part x xs) (steps_typed s l.0 l.1).0) (subst (AllBelow (length scope)) (channels_part x ys) (steps_typed r m.0 m.1).0)),
+        (h.0, h.1, sides_map (Is scope a) (Is scope b) (Is scope a') (Is scope b') (λ ts f. (steps_typed s ts f).1) (λ ts f. (steps_typed r ts f).1) exit_types h.2),
+      )
   steps_typed {scope = scope} (both_end {a = a} {b = b} s r) exit_types h =
       (elim (some_whole (Is scope a) (Is scope b) exit_types h.2) [ inl k ↦ (steps_typed s exit_types k).0 | inr k ↦ (steps_typed r exit_types k).0 ], tt)
   steps_typed (before s) exit_types h = let p = steps_typed s h.0 h.2 in (p.0, (h.0, h.1, p.1, h.3))

@@ -1,12 +1,11 @@
 -- A term stays well typed when expressions of their types are put for its slots, or channels of the same types for its channels.
-use Rattle.std.specs.Prelude.{Some, None, slice_get}
 use Rattle.std.proofs.Common.{◌≡◌, ◌<◌, ℕ, zero, suc, ◌+◌, List, [], ◌∷◌, ◌++◌, map, length, refl, sym, ap, ◌∙◌, subst, arith, false}
-use Rattle.txs_values.specs.Value.{Ty, Value, Table, HasType, HaveTypes, truth}
-use Rattle.txs_terms.specs.Expr.{Expr, slot, Puts, put, put_all, filled, moved}
+use Rattle.txs_values.specs.Value.{Ty, Value, Table, HaveTypes}
+use Rattle.txs_terms.specs.Expr.{Expr, Puts, put_all, filled}
 use Rattle.txs_terms.specs.Action.{Channels, Scope, types_on, types_over, is_empty}
 use Rattle.txs_terms.specs.Term.{Position, give, take, Offer, Term, stop, exits, prefix, step, guard, choice, par, enable, disable, interrupt, hide, call, bind, machine, hit, miss, put_position, put_offer, put_term, fill, channel_at, offer_at, with_channels, instance}
 use Rattle.txs_terms.specs.Rules.{offered}
-use Rattle.txs_terms.specs.Typed.{Signatures, Of, OfEach, AreGuards, FitPositions, FitOffers, OfBindings, FitChannels, AllBelow, OfTerm}
+use Rattle.txs_terms.specs.Typed.{Signatures, OfEach, AreGuards, FitPositions, FitOffers, OfBindings, FitChannels, AllBelow, OfTerm}
 use Rattle.txs_laws.proofs.typing.Channels.{union_below}
 use Rattle.txs_laws.proofs.rules.Channels.{ascending_order}
 use Rattle.txs_laws.proofs.typing.Sides.{sides_map}
@@ -59,9 +58,10 @@ module _ (table : Table) (signatures : Signatures) where
   put_bindings_fit f slots others c [] [] h = tt
   put_bindings_fit f slots others c [] (t ∷ ts) h = absurd h
   put_bindings_fit f slots others c (e ∷ es) [] h = absurd h
-  put_bindings_fit f slots others c (e ∷ es) (t ∷ ts) h =
-      (put_typed table signatures h.0 f others (carries_here f slots others c),
-      put_bindings_fit f (slots ++ t ∷ []) (others ++ t ∷ []) (carries_more f slots others (t ∷ []) c) es ts h.1)
+  put_bindings_fit f slots others c (e ∷ es) (t ∷ ts) h = (
+    put_typed table signatures h.0 f others (carries_here f slots others c),
+    put_bindings_fit f (slots ++ t ∷ []) (others ++ t ∷ []) (carries_more f slots others (t ∷ []) c) es ts h.1,
+  )
 
   offered_put : (f : Puts) (os : List Offer) → offered (map (put_offer f) os) ≡ offered os
   offered_put f [] = refl
@@ -74,26 +74,33 @@ module _ (table : Table) (signatures : Signatures) where
   put_term_typed (prefix os gs t) f scope slots others exit_types c h =
       let ts : List Ty = types_over scope (offered os) in
       let more : Carries f (slots ++ ts) (others ++ ts) = carries_more f slots others ts c in
-      let same : types_over scope (offered os) ≡ types_over scope (offered (map (put_offer f) os)) = ap (types_over scope) (sym (offered_put f os)) in
-      (put_offers_fit f scope slots others (carries_here f slots others c) os h.0,
-      subst (λ l. AreGuards table signatures (others ++ l) (put_all f gs)) same
-      (put_guards f (slots ++ ts) (others ++ ts) (carries_here f (slots ++ ts) (others ++ ts) more) gs h.1),
-      subst (λ l. OfTerm table signatures scope (others ++ l) exit_types (put_term f t)) same
-      (put_term_typed t f scope (slots ++ ts) (others ++ ts) exit_types more h.2),
-      ap is_empty (offered_put f os) ∙ h.3)
+      let same : types_over scope (offered os) ≡ types_over scope (offered (map (put_offer f) os)) = ap (types_over scope) (sym (offered_put f os)) in (
+        put_offers_fit f scope slots others (carries_here f slots others c) os h.0,
+        subst (λ l. AreGuards table signatures (others ++ l) (put_all f gs)) same
+            (put_guards f (slots ++ ts) (others ++ ts) (carries_here f (slots ++ ts) (others ++ ts) more) gs h.1),
+        subst (λ l. OfTerm table signatures scope (others ++ l) exit_types (put_term f t)) same
+            (put_term_typed t f scope (slots ++ ts) (others ++ ts) exit_types more h.2),
+        ap is_empty (offered_put f os) ∙ h.3,
+      )
   put_term_typed (step gs t) f scope slots others exit_types c h =
       (put_guards f slots others (carries_here f slots others c) gs h.0, put_term_typed t f scope slots others exit_types c h.1)
   put_term_typed (guard gs t) f scope slots others exit_types c h =
       (put_guards f slots others (carries_here f slots others c) gs h.0, put_term_typed t f scope slots others exit_types c h.1)
   put_term_typed (choice a b) f scope slots others exit_types c h =
       (put_term_typed a f scope slots others exit_types c h.0, put_term_typed b f scope slots others exit_types c h.1)
-  put_term_typed (par gates a b) f scope slots others exit_types c h =
-      (h.0, h.1, sides_map (λ ts. OfTerm table signatures scope slots ts a) (λ ts. OfTerm table signatures scope slots ts b)
-      (λ ts. OfTerm table signatures scope others ts (put_term f a)) (λ ts. OfTerm table signatures scope others ts (put_term f b))
-      (λ ts k. put_term_typed a f scope slots others ts c k) (λ ts k. put_term_typed b f scope slots others ts c k) exit_types h.2)
-  put_term_typed (enable a xs b) f scope slots others exit_types c h =
-      (h.0, h.1, put_term_typed a f scope slots others h.0 c h.2,
-      put_term_typed b f scope (slots ++ h.0) (others ++ h.0) exit_types (carries_more f slots others h.0 c) h.3)
+  put_term_typed (par gates a b) f scope slots others exit_types c h = (
+    h.0,
+    h.1,
+    sides_map (λ ts. OfTerm table signatures scope slots ts a) (λ ts. OfTerm table signatures scope slots ts b)
+        (λ ts. OfTerm table signatures scope others ts (put_term f a)) (λ ts. OfTerm table signatures scope others ts (put_term f b))
+        (λ ts k. put_term_typed a f scope slots others ts c k) (λ ts k. put_term_typed b f scope slots others ts c k) exit_types h.2,
+  )
+  put_term_typed (enable a xs b) f scope slots others exit_types c h = (
+    h.0,
+    h.1,
+    put_term_typed a f scope slots others h.0 c h.2,
+    put_term_typed b f scope (slots ++ h.0) (others ++ h.0) exit_types (carries_more f slots others h.0 c) h.3,
+  )
   put_term_typed (disable a b) f scope slots others exit_types c h =
       (put_term_typed a f scope slots others exit_types c h.0, put_term_typed b f scope slots others exit_types c h.1)
   put_term_typed (interrupt a b) f scope slots others exit_types c h =
@@ -101,9 +108,12 @@ module _ (table : Table) (signatures : Signatures) where
   put_term_typed (hide hs t) f scope slots others exit_types c h = (h.0, put_term_typed t f (scope ++ hs) slots others exit_types c h.1)
   put_term_typed (call p cs es) f scope slots others exit_types c h =
       (h.0, h.1, h.2, put_each_fits f slots others (carries_here f slots others c) es h.0.takes h.3, h.4)
-  put_term_typed (bind xs es t) f scope slots others exit_types c h =
-      (h.0, h.1, put_bindings_fit f slots others c es h.0 h.2,
-      put_term_typed t f scope (slots ++ h.0) (others ++ h.0) exit_types (carries_more f slots others h.0 c) h.3)
+  put_term_typed (bind xs es t) f scope slots others exit_types c h = (
+    h.0,
+    h.1,
+    put_bindings_fit f slots others c es h.0 h.2,
+    put_term_typed t f scope (slots ++ h.0) (others ++ h.0) exit_types (carries_more f slots others h.0 c) h.3,
+  )
   put_term_typed (machine k cs es q) f scope slots others exit_types c h =
       (h.0, h.1, h.2, put_each_fits f slots others (carries_here f slots others c) es h.0.holds h.3, h.4)
   put_term_typed hit f scope slots others exit_types c h = tt
@@ -170,22 +180,24 @@ module _ (table : Table) (signatures : Signatures) where
   channels_typed (exits es) g formals scope slots exit_types l h = h
   channels_typed (prefix os gs t) g formals scope slots exit_types l h =
       let here : LeadsHere g formals scope = leads_here g formals scope l in
-      let same : types_over formals (offered os) ≡ types_over scope (offered (map (offer_at g) os)) = types_led g formals scope here slots os h.0 in
-      (offers_led g formals scope here slots os h.0,
-      subst (λ x. AreGuards table signatures (slots ++ x) gs) same h.1,
-      subst (λ x. OfTerm table signatures scope (slots ++ x) exit_types (with_channels g t)) same
-      (channels_typed t g formals scope (slots ++ types_over formals (offered os)) exit_types l h.2),
-      still_some g os h.3)
+      let same : types_over formals (offered os) ≡ types_over scope (offered (map (offer_at g) os)) = types_led g formals scope here slots os h.0 in (
+        offers_led g formals scope here slots os h.0,
+        subst (λ x. AreGuards table signatures (slots ++ x) gs) same h.1,
+        subst (λ x. OfTerm table signatures scope (slots ++ x) exit_types (with_channels g t)) same
+            (channels_typed t g formals scope (slots ++ types_over formals (offered os)) exit_types l h.2),
+        still_some g os h.3,
+      )
   channels_typed (step gs t) g formals scope slots exit_types l h = (h.0, channels_typed t g formals scope slots exit_types l h.1)
   channels_typed (guard gs t) g formals scope slots exit_types l h = (h.0, channels_typed t g formals scope slots exit_types l h.1)
   channels_typed (choice a b) g formals scope slots exit_types l h =
       (channels_typed a g formals scope slots exit_types l h.0, channels_typed b g formals scope slots exit_types l h.1)
-  channels_typed (par gates a b) g formals scope slots exit_types l h =
-      (union_below (length scope) (map g gates) [] (below_led g formals scope (leads_here g formals scope l) gates h.0) tt,
-      ascending_order (map g gates),
-      sides_map (λ ts. OfTerm table signatures formals slots ts a) (λ ts. OfTerm table signatures formals slots ts b)
-      (λ ts. OfTerm table signatures scope slots ts (with_channels g a)) (λ ts. OfTerm table signatures scope slots ts (with_channels g b))
-      (λ ts k. channels_typed a g formals scope slots ts l k) (λ ts k. channels_typed b g formals scope slots ts l k) exit_types h.2)
+  channels_typed (par gates a b) g formals scope slots exit_types l h = (
+    union_below (length scope) (map g gates) [] (below_led g formals scope (leads_here g formals scope l) gates h.0) tt,
+    ascending_order (map g gates),
+    sides_map (λ ts. OfTerm table signatures formals slots ts a) (λ ts. OfTerm table signatures formals slots ts b)
+        (λ ts. OfTerm table signatures scope slots ts (with_channels g a)) (λ ts. OfTerm table signatures scope slots ts (with_channels g b))
+        (λ ts k. channels_typed a g formals scope slots ts l k) (λ ts k. channels_typed b g formals scope slots ts l k) exit_types h.2,
+  )
   channels_typed (enable a xs b) g formals scope slots exit_types l h =
       (h.0, h.1, channels_typed a g formals scope slots h.0 l h.2, channels_typed b g formals scope (slots ++ h.0) exit_types l h.3)
   channels_typed (disable a b) g formals scope slots exit_types l h =

@@ -1,19 +1,17 @@
 -- Operators over lists of well typed items: prefix, parallel, enable, disable and interrupt.
 use Rattle.std.specs.Prelude.{Option, Some, None, slice_get}
-use Rattle.std.proofs.Common.{◌≡◌, ◌<◌, ℕ, zero, suc, ◌+◌, Bool, true, false, cond, List, [], ◌∷◌, ◌++◌, map, length, refl, sym, ap, ◌∙◌, subst, arith, inl, inr}
-use Rattle.txs_values.specs.Value.{Ty, Value, Table, HasType, HaveTypes, truth}
-use Rattle.txs_terms.specs.Expr.{Expr, val, slot, equal, Puts, put, put_all, moved, has_slot}
-use Rattle.txs_terms.specs.Eval.{Defs, Run, got, bad, eval, height_limit, run}
-use Rattle.txs_terms.specs.Action.{Channels, Scope, types_on, types_over, arity, union, joins, none_in, from, in_order, Ascending}
-use Rattle.txs_terms.specs.Term.{Name, Position, give, take, Offer, Term, stop, par, enable, disable, interrupt, put_term, fill}
+use Rattle.std.proofs.Common.{◌≡◌, ℕ, suc, Bool, true, false, cond, List, [], ◌∷◌, ◌++◌, map, length, refl, sym, ap, ◌∙◌, subst, inl, inr}
+use Rattle.txs_values.specs.Value.{Ty, Value, Table, HaveTypes}
+use Rattle.txs_terms.specs.Expr.{Expr, Puts, put_all, moved, has_slot}
+use Rattle.txs_terms.specs.Eval.{Defs, Run, got, bad, height_limit, run}
+use Rattle.txs_terms.specs.Action.{Channels, Scope, types_on, types_over, union, joins, none_in, from, in_order, Ascending}
+use Rattle.txs_terms.specs.Term.{Name, Position, give, take, Offer, Term, disable, interrupt, put_term}
 use Rattle.txs_terms.specs.Rules.{offered}
-use Rattle.txs_terms.specs.Typed.{Signatures, Of, val_of, slot_of, equal_of, AreTyped, AreGuards, FitPositions, FitOffers, AllBelow, OfTerm}
-use Rattle.txs_terms.specs.Menu.{Kind, on, within, ending, Item, with_slots, gather, fixed_by, fixes, both_lists, all_fixes, prefix_item, width, start, places, size_of, beside, goes_alone, wrapped, alone, left_of, right_of, among, join_on, same_values, join_ends, join_kinds, join, par_items, pass_kind, pass, wrap_kind, disabled, interrupted, back_kind, back_to, too_many, capped, Walk, faulted, walked, wide, then_walk, where_holds, where_some, Verdict, holds, fails, faults, eval_fault, without_slots, judge, prefix_walk}
+use Rattle.txs_terms.specs.Typed.{Signatures, val_of, slot_of, equal_of, AreTyped, AreGuards, FitPositions, FitOffers, AllBelow, OfTerm}
+use Rattle.txs_terms.specs.Menu.{Kind, on, within, ending, Item, with_slots, gather, fixed_by, fixes, both_lists, all_fixes, prefix_item, width, start, places, size_of, beside, goes_alone, alone, left_of, right_of, among, join_on, same_values, join_ends, join_kinds, join, par_items, pass_kind, pass, wrap_kind, disabled, interrupted, back_kind, back_to}
 use Rattle.txs_laws.proofs.rules.Parallel.{same_values-true}
 use Rattle.txs_laws.proofs.typing.Sides.{sides_map, some_left, some_right, some_whole, Sides}
 use Rattle.txs_laws.specs.Items.{AreItemGuards, IsItem, AreItems}
-use Rattle.txs_laws.proofs.typing.Lists.{same_some}
-use Rattle.txs_laws.proofs.typing.Putting.{Suits, put_typed}
 use Rattle.txs_laws.proofs.typing.Runs.{run_well, EndsWell}
 use Rattle.txs_laws.proofs.typing.Terms.{Carries, carries_more, carries_here, put_term_typed, fill_typed}
 use Rattle.txs_laws.proofs.typing.Channels.{Within, within_left, within_right, within_order, union_below}
@@ -103,18 +101,37 @@ module _ (table : Table) (signatures : Signatures) (scope : Scope) where
         if_alone : (cs : Channels) (c : Bool) → Sides (Of_kind (on cs) i) (Is [] b) exit_types
             → AreItems table signatures scope exit_types (cond c (record { kind = on cs; guards = i.guards; rest = left_of scope gates b (on cs) i.rest } ∷ []) [])
         if_alone cs true q =
-            let l = some_left (Of_kind (on cs) i) (Is [] b) exit_types q in
-            (((l.1).0, (l.1).1, (below, ascend, sides_map (Of_kind (on cs) i) (Is [] b) (Is (types_over scope cs) i.rest) (Is (types_over scope cs) (beside scope (on cs) b))
-            (λ ts k. k.2) (λ ts k. beside_typed ts (on cs) b k) exit_types q)), tt)
+            let l = some_left (Of_kind (on cs) i) (Is [] b) exit_types q in (
+              (
+                (l.1).0,
+                (l.1).1,
+                (
+                  below,
+                  ascend,
+                  sides_map (Of_kind (on cs) i) (Is [] b) (Is (types_over scope cs) i.rest) (Is (types_over scope cs) (beside scope (on cs) b))
+                      (λ ts k. k.2) (λ ts k. beside_typed ts (on cs) b k) exit_types q,
+                ),
+              ),
+              tt,
+            )
         if_alone cs false q = tt
 
         by : (k : Kind) → Sides (Of_kind k i) (Is [] b) exit_types
             → AreItems table signatures scope exit_types (cond (goes_alone gates k) (record { kind = k; guards = i.guards; rest = left_of scope gates b k i.rest } ∷ []) [])
         by (on cs) q = if_alone cs (none_in gates cs) q
         by within q =
-            let l = some_left (Of_kind within i) (Is [] b) exit_types q in
-            (((l.1).0, (below, ascend, sides_map (Of_kind within i) (Is [] b) (Is [] i.rest) (Is [] (beside scope within b))
-            (λ ts k. k.1) (λ ts k. beside_typed ts within b k) exit_types q)), tt)
+            let l = some_left (Of_kind within i) (Is [] b) exit_types q in (
+              (
+                (l.1).0,
+                (
+                  below,
+                  ascend,
+                  sides_map (Of_kind within i) (Is [] b) (Is [] i.rest) (Is [] (beside scope within b))
+                      (λ ts k. k.1) (λ ts k. beside_typed ts within b k) exit_types q,
+                ),
+              ),
+              tt,
+            )
         by (ending vs) q = tt
 
     right_typed : (a : Term) → (i : Item) → Sides (Is [] a) (Of_item i) exit_types
@@ -124,18 +141,37 @@ module _ (table : Table) (signatures : Signatures) (scope : Scope) where
         if_alone : (cs : Channels) (c : Bool) → Sides (Is [] a) (Of_kind (on cs) i) exit_types
             → AreItems table signatures scope exit_types (cond c (record { kind = on cs; guards = i.guards; rest = right_of scope gates a (on cs) i.rest } ∷ []) [])
         if_alone cs true q =
-            let l = some_right (Is [] a) (Of_kind (on cs) i) exit_types q in
-            (((l.1).0, (l.1).1, (below, ascend, sides_map (Is [] a) (Of_kind (on cs) i) (Is (types_over scope cs) (beside scope (on cs) a)) (Is (types_over scope cs) i.rest)
-            (λ ts k. beside_typed ts (on cs) a k) (λ ts k. k.2) exit_types q)), tt)
+            let l = some_right (Is [] a) (Of_kind (on cs) i) exit_types q in (
+              (
+                (l.1).0,
+                (l.1).1,
+                (
+                  below,
+                  ascend,
+                  sides_map (Is [] a) (Of_kind (on cs) i) (Is (types_over scope cs) (beside scope (on cs) a)) (Is (types_over scope cs) i.rest)
+                      (λ ts k. beside_typed ts (on cs) a k) (λ ts k. k.2) exit_types q,
+                ),
+              ),
+              tt,
+            )
         if_alone cs false q = tt
 
         by : (k : Kind) → Sides (Is [] a) (Of_kind k i) exit_types
             → AreItems table signatures scope exit_types (cond (goes_alone gates k) (record { kind = k; guards = i.guards; rest = right_of scope gates a k i.rest } ∷ []) [])
         by (on cs) q = if_alone cs (none_in gates cs) q
         by within q =
-            let l = some_right (Is [] a) (Of_kind within i) exit_types q in
-            (((l.1).0, (below, ascend, sides_map (Is [] a) (Of_kind within i) (Is [] (beside scope within a)) (Is [] i.rest)
-            (λ ts k. beside_typed ts within a k) (λ ts k. k.1) exit_types q)), tt)
+            let l = some_right (Is [] a) (Of_kind within i) exit_types q in (
+              (
+                (l.1).0,
+                (
+                  below,
+                  ascend,
+                  sides_map (Is [] a) (Of_kind within i) (Is [] (beside scope within a)) (Is [] i.rest)
+                      (λ ts k. beside_typed ts within a k) (λ ts k. k.1) exit_types q,
+                ),
+              ),
+              tt,
+            )
         by (ending vs) q = tt
 
     among_carries : (all cs : Channels) → Within cs all → Carries table signatures (among scope all cs) (types_over scope cs) (types_over scope all)
@@ -157,13 +193,18 @@ module _ (table : Table) (signatures : Signatures) (scope : Scope) where
     both_typed xs ys i j q =
         let l = within_left xs ys in let r = within_right xs ys in
         let h = some_left (Of_kind (on xs) i) (Of_kind (on ys) j) exit_types q in
-        let k = some_right (Of_kind (on xs) i) (Of_kind (on ys) j) exit_types q in
-        (union_below (length scope) xs ys (h.1).0 (k.1).0,
-        item_guards_joined table signatures (types_over scope (union xs ys)) (put_all (among scope (union xs ys) xs) i.guards) (put_all (among scope (union xs ys) ys) j.guards)
-        (among_guards (union xs ys) xs l i.guards (h.1).1) (among_guards (union xs ys) ys r j.guards (k.1).1),
-        (below, ascend, sides_map (Of_kind (on xs) i) (Of_kind (on ys) j)
-        (Is (types_over scope (union xs ys)) (put_term (among scope (union xs ys) xs) i.rest)) (Is (types_over scope (union xs ys)) (put_term (among scope (union xs ys) ys) j.rest))
-        (λ ts f. among_term (union xs ys) xs l i.rest ts f.2) (λ ts f. among_term (union xs ys) ys r j.rest ts f.2) exit_types q))
+        let k = some_right (Of_kind (on xs) i) (Of_kind (on ys) j) exit_types q in (
+          union_below (length scope) xs ys (h.1).0 (k.1).0,
+          item_guards_joined table signatures (types_over scope (union xs ys)) (put_all (among scope (union xs ys) xs) i.guards) (put_all (among scope (union xs ys) ys) j.guards)
+              (among_guards (union xs ys) xs l i.guards (h.1).1) (among_guards (union xs ys) ys r j.guards (k.1).1),
+          (
+            below,
+            ascend,
+            sides_map (Of_kind (on xs) i) (Of_kind (on ys) j)
+                (Is (types_over scope (union xs ys)) (put_term (among scope (union xs ys) xs) i.rest)) (Is (types_over scope (union xs ys)) (put_term (among scope (union xs ys) ys) j.rest))
+                (λ ts f. among_term (union xs ys) xs l i.rest ts f.2) (λ ts f. among_term (union xs ys) ys r j.rest ts f.2) exit_types q,
+          ),
+        )
 
     if_joined : (c : Bool) (i : Item) → (c ≡ true → IsItemOf exit_types i) → AreItems table signatures scope exit_types (cond c (i ∷ []) [])
     if_joined true i h = (h refl, tt)
@@ -305,9 +346,10 @@ module _ (defs : Defs) (signatures : Signatures) (typed : AreTyped defs signatur
       let to_slots : List Ty = types_over scope cs in
       let f : Puts = moved (places scope cs (offered os)) (width scope cs) in
       let c : Carries defs.table signatures f from_slots to_slots =
-      moved_carries defs.table signatures (places scope cs (offered os)) (width scope cs) from_slots to_slots (points_places scope cs (offered os) w) (width_types scope cs) in
-      (union_below (length scope) (offered os) [] (all_below os h) tt,
-      item_guards_joined defs.table signatures to_slots fixed (put_all f (with_slots gs)) (subst (IfGuards to_slots) e (all_fixes_typed cs os h w))
-      (item_guards_put defs.table signatures f from_slots to_slots (moved_renames (places scope cs (offered os)) (width scope cs))
-      (carries_here defs.table signatures f from_slots to_slots c) (with_slots gs) (with_slots_typed defs.table signatures scope from_slots gs g)),
-      put_term_typed defs.table signatures t f scope from_slots to_slots exit_types c k)
+      moved_carries defs.table signatures (places scope cs (offered os)) (width scope cs) from_slots to_slots (points_places scope cs (offered os) w) (width_types scope cs) in (
+        union_below (length scope) (offered os) [] (all_below os h) tt,
+        item_guards_joined defs.table signatures to_slots fixed (put_all f (with_slots gs)) (subst (IfGuards to_slots) e (all_fixes_typed cs os h w))
+            (item_guards_put defs.table signatures f from_slots to_slots (moved_renames (places scope cs (offered os)) (width scope cs))
+            (carries_here defs.table signatures f from_slots to_slots c) (with_slots gs) (with_slots_typed defs.table signatures scope from_slots gs g)),
+        put_term_typed defs.table signatures t f scope from_slots to_slots exit_types c k,
+      )
