@@ -16,5 +16,6 @@ pub mod Meaning
 pub mod Closing
 pub mod Moving
 pub mod Traces
+pub mod Quiet
 pub mod Left
 pub mod Rows

@@ -7,7 +7,6 @@ pub mod Putting
 pub mod Outcomes
 pub mod Runs
 pub mod Defaults
-pub mod Puts
 pub mod Terms
 pub mod Channels
 pub mod Steps

@@ -1,6 +1,7 @@
 pub mod Items
 pub mod Menus
 pub mod Sets
+pub mod Quiescence
 pub mod Filling
 pub mod Channels
 pub mod Paths

@@ -1,4 +1,5 @@
 //! Laws on sets of terms.
+ghost use Rattle.txs_laws.specs.Quiescence.{QuietIsSilent};
 ghost use Rattle.txs_laws.specs.Sets.{ClosedIsReached, FirstIsAfter, MovedIsStepped, NextIsAfter};
 
 /// A closed set holds what internal steps reach from the set, and nothing else.
@@ -19,4 +20,9 @@ pub fn first_is_after()
 /// The set after a trace, moved by an action and closed, is the set of terms after both.
 pub fn next_is_after()
     ensures { NextIsAfter }
+{}
+
+/// A term is quiescent exactly where no item of its menu is internal and none does an output at any values.
+pub fn quiet_is_silent()
+    ensures { QuietIsSilent }
 {}

@@ -9,10 +9,10 @@ use Rattle.txs_laws.proofs.examples.Steps.{Member, member, menus_nodes, targets_
 use Rattle.txs_laws.proofs.examples.Words.{limits, nothing, processes, int, pair, broken_number, sends_of, takes, quietly, item}
 
 -- PROCDEF P [ ] ( ) ::= ISTEP >-> P [ ] ( ) ENDDEF: a loop of internal steps is closed by itself
-abbrev loops : Model
+abbrev pub loops : Model
 loops = processes (quietly (call 0 [] []) ∷ [])
 
-abbrev loop : Term
+abbrev pub loop : Term
 loop = call 0 [] []
 
 abbrev looping : List Member

@@ -78,11 +78,11 @@ says_no_other = moves_to [] [] (moves_of nothing pair (does 1 3) members are_mem
 -- ---- exits of both sides
 
 -- EXIT ! 1 ||| EXIT ! 2 >>> ACCEPT ? x IN Out ! x >-> STOP NI
-abbrev two_exits : Term
+abbrev pub two_exits : Term
 two_exits = enable (par [] (exits (number 1 ∷ [])) (exits (number 2 ∷ []))) (x ∷ []) (sends_of 1 (slot 0) stop)
 
 -- the values differ, so there is nothing to do
-two_exits_menu : menu nothing pair two_exits ≡ walked 4 []
+pub two_exits_menu : menu nothing pair two_exits ≡ walked 4 []
 unfolding limits
 two_exits_menu = refl
 

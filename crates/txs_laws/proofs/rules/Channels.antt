@@ -4,7 +4,7 @@ use Rattle.std.proofs.lemmas.Bool.{eqb-true, eq-eqb, or_left, or_right, or_cases
 use Rattle.txs_terms.specs.Action.{Channels, has, with_channel, union, kept, AllAbove, Ascending, is_empty, in_order}
 use Rattle.txs_laws.proofs.rules.Places.{Within}
 
-has_self : (c : ℕ) (xs : Channels) → has (c ∷ xs) c ≡ true
+pub has_self : (c : ℕ) (xs : Channels) → has (c ∷ xs) c ≡ true
 has_self c xs = or_left (eqb c c) (has xs c) (eq-eqb c c refl)
 
 new_first : (c x : ℕ) (xs : Channels) (p q : Bool) → eqb c x ≡ q → has (with_channel c xs) c ≡ true
@@ -55,6 +55,10 @@ right_each (z ∷ zs) xs ys h = (has_right xs ys z h.0, right_each zs xs ys h.1)
 
 pub within_right : (xs ys : Channels) → Within ys (union xs ys)
 within_right xs ys = right_each ys xs ys (within_self ys)
+
+pub within_cons : (x : ℕ) (xs all : Channels) → Within xs all → Within xs (x ∷ all)
+within_cons x [] all h = tt
+within_cons x (c ∷ cs) all h = (or_right (eqb x c) (has all c) h.0, within_cons x cs all h.1)
 
 pub within_order : (cs : Channels) → Within cs (in_order cs)
 within_order cs = within_left cs []

@@ -1,6 +1,6 @@
 -- The menu of a hide.
 use Rattle.std.proofs.Common.{◌≡◌, ℕ, zero, suc, ◌<◌, ◌≤◌, Bool, true, false, cond, eqb, ltb, ◌||◌, ◌⊎◌, inl, inr, List, [], ◌∷◌, ◌++◌, length, refl, sym, ap, ◌∙◌, subst, arith}
-use Rattle.std.proofs.lemmas.Bool.{eqb-true, ltb-true, ltb-false, eq-eqb, or_left, or_right}
+use Rattle.std.proofs.lemmas.Bool.{eqb-true, ltb-true, ltb-false, eq-eqb, or_left}
 use Rattle.txs_values.specs.Value.{Value, Ty, Table, HaveTypes}
 use Rattle.txs_terms.specs.Expr.{put_all, filled}
 use Rattle.txs_terms.specs.Eval.{Defs, Hold}
@@ -13,7 +13,7 @@ use Rattle.txs_laws.proofs.rules.Put.{Picked}
 use Rattle.txs_laws.proofs.rules.Tests.{judge_holds, holds_judge, from_parts, closed_part, open_part}
 use Rattle.txs_laws.proofs.rules.Places.{Within, width-values, over_channels, typed_on, typed_part, channels_part, values_part}
 use Rattle.txs_laws.proofs.rules.Lists.{In_front, In_back, In-append, walked_items}
-use Rattle.txs_laws.proofs.rules.Channels.{ascending_kept}
+use Rattle.txs_laws.proofs.rules.Channels.{ascending_kept, within_cons}
 use Rattle.txs_laws.proofs.rules.Sequential.{Means, InOrder}
 use Rattle.txs_laws.proofs.rules.Fix.{fix_all_from, keeps, extends}
 use Rattle.txs_values.specs.Default.{default_of}
@@ -43,10 +43,6 @@ visible_first d c cs false e h = h
 visible_below : (d : ℕ) (cs : Channels) → AreVisible d (visible d cs)
 visible_below d [] = tt
 visible_below d (c ∷ cs) = visible_first d c cs (ltb c d) refl (visible_below d cs)
-
-within_cons : (x : ℕ) (xs all : Channels) → Within xs all → Within xs (x ∷ all)
-within_cons x [] all h = tt
-within_cons x (c ∷ cs) all h = (or_right (eqb x c) (has all c) h.0, within_cons x cs all h.1)
 
 visible_within_first : (d c : ℕ) (cs : Channels) (b : Bool) → Within (visible d cs) (c ∷ cs) → Within (cond b (c ∷ visible d cs) (visible d cs)) (c ∷ cs)
 visible_within_first d c cs true h = (or_left (eqb c c) (has cs c) (eq-eqb c c refl), h)

@@ -12,7 +12,7 @@ use Rattle.txs_terms.specs.Menu.{Kind, on, within, ending, Item, Verdict, holds,
 use Rattle.txs_laws.proofs.typing.Sides.{sides_map, Sides}
 use Rattle.txs_laws.specs.Items.{AreItemGuards, IsItem, AreItems, ItemsAreTyped}
 use Rattle.txs_laws.proofs.typing.Lists.{same_some}
-use Rattle.txs_laws.proofs.typing.Puts.{then_put, put_put_term}
+use Rattle.txs_laws.proofs.rules.Put.{then_put, put_put_term}
 use Rattle.txs_laws.proofs.typing.Runs.{values_typed, bound_typed}
 use Rattle.txs_laws.proofs.typing.Terms.{Carries, carries_here, put_term_typed, fill_typed, instance_typed, types_front}
 use Rattle.txs_laws.proofs.typing.Channels.{within_kept, visible_below}

@@ -11,7 +11,7 @@ use Rattle.txs_laws.specs.Items.{AreItemGuards}
 use Rattle.txs_laws.proofs.typing.Lists.{joined_again, no_member, member_front, member_past}
 use Rattle.txs_laws.proofs.typing.Putting.{put_typed, Suits}
 use Rattle.txs_laws.proofs.typing.Terms.{Carries}
-use Rattle.txs_laws.proofs.typing.Channels.{Within}
+use Rattle.txs_laws.proofs.rules.Places.{Within}
 
 -- ---- places with types
 

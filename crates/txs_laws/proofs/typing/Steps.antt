@@ -13,7 +13,9 @@ use Rattle.txs_laws.proofs.typing.Lists.{same_some, have_joined}
 use Rattle.txs_laws.proofs.typing.Putting.{put_typed, filled_all}
 use Rattle.txs_laws.proofs.typing.Runs.{run_typed}
 use Rattle.txs_laws.proofs.typing.Terms.{fill_typed, instance_typed}
-use Rattle.txs_laws.proofs.typing.Channels.{Within, within_order, union_below, visible_below, channels_part, typed_over}
+use Rattle.txs_laws.proofs.rules.Places.{Within, channels_part}
+use Rattle.txs_laws.proofs.rules.Channels.{within_order}
+use Rattle.txs_laws.proofs.typing.Channels.{union_below, visible_below, typed_over}
 
 module _ (defs : Defs) (signatures : Signatures) (typed : AreTyped defs signatures) where
   given_typed : (es : List Expr) (ts : List Ty) (vs : List Value) → OfEach defs.table signatures [] es ts → AllGive defs es vs → HaveTypes defs.table vs ts

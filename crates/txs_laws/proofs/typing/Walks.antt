@@ -14,7 +14,9 @@ use Rattle.txs_laws.proofs.typing.Sides.{sides_map, some_left, some_right, some_
 use Rattle.txs_laws.specs.Items.{AreItemGuards, IsItem, AreItems}
 use Rattle.txs_laws.proofs.typing.Runs.{run_well, EndsWell}
 use Rattle.txs_laws.proofs.typing.Terms.{Carries, carries_more, carries_here, put_term_typed, fill_typed}
-use Rattle.txs_laws.proofs.typing.Channels.{Within, within_left, within_right, within_order, union_below}
+use Rattle.txs_laws.proofs.rules.Places.{Within}
+use Rattle.txs_laws.proofs.rules.Channels.{within_left, within_right, within_order}
+use Rattle.txs_laws.proofs.typing.Channels.{union_below}
 use Rattle.txs_laws.proofs.typing.Slots.{Points, points_channel, points_places, width_types, moved_renames, moved_carries, item_guards_joined, item_guards_put}
 
 module _ (table : Table) (signatures : Signatures) (scope : Scope) where
