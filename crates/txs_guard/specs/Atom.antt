@@ -6,6 +6,7 @@ use Rattle.txs_terms.specs.Eval.{Run, eval, got, bad}
 use Rattle.txs_guard.specs.Query.{Query}
 use Rattle.txs_guard.specs.Place.{spot_of, spot_type, has_spot, is_type, is_plain, same_types}
 
+-- the largest parts that are not made by `/\`, `\/`, `not`, a Bool IF, `True` or `False`
 abbrev pub atoms_of : Expr → List Expr
 atoms_of (both a b) = atoms_of a ++ atoms_of b
 atoms_of (either a b) = atoms_of a ++ atoms_of b
@@ -23,10 +24,12 @@ atoms_of (apply k es) = apply k es ∷ []
 atoms_of (build c es) = build c es ∷ []
 atoms_of (let_in x a b) = let_in x a b ∷ []
 
+-- the atoms of conjuncts, in order
 abbrev pub atoms_of_all : List Expr → List Expr
 atoms_of_all [] = []
 atoms_of_all (e ∷ es) = atoms_of e ++ atoms_of_all es
 
+-- the value of a run that ended with one
 abbrev pub value_in : Run → Option Value
 value_in (got v n) = Some v
 value_in (bad f) = None
@@ -35,6 +38,7 @@ value_in (bad f) = None
 abbrev pub fixed_value : Query → Expr → Option Value
 fixed_value q e = cond (has_slot e) None (value_in (eval q.defs e))
 
+-- whether there is a value
 abbrev pub has_value : Option Value → Bool
 has_value None = false
 has_value (Some v) = true
@@ -45,6 +49,7 @@ is_equality q a b =
     has_spot (spot_of a) && (has_spot (spot_of b) && (is_plain (spot_type q (spot_of a)) && same_types (spot_type q (spot_of a)) (spot_type q (spot_of b))))
     || (has_spot (spot_of a) && has_value (fixed_value q b) || has_value (fixed_value q a) && has_spot (spot_of b))
 
+-- an Int place, or a constant
 abbrev pub is_whole_side : Query → Expr → Bool
 is_whole_side q a = is_type whole (spot_type q (spot_of a)) || has_value (fixed_value q a)
 
@@ -52,6 +57,7 @@ is_whole_side q a = is_type whole (spot_type q (spot_of a)) || has_value (fixed_
 abbrev pub is_comparison : Query → Expr → Expr → Bool
 is_comparison q a b = is_whole_side q a && (is_whole_side q b && (has_spot (spot_of a) || has_spot (spot_of b)))
 
+-- `<`, `<=`, `>` and `>=`
 abbrev pub is_order_sign : Binary → Bool
 is_order_sign less_than = true
 is_order_sign at_most = true
@@ -59,10 +65,12 @@ is_order_sign more_than = true
 is_order_sign at_least = true
 is_order_sign _ = false
 
+-- `<>`
 abbrev pub is_differ : Binary → Bool
 is_differ differ = true
 is_differ _ = false
 
+-- whether an atom is an order atom
 abbrev pub is_order_atom : Query → Expr → Bool
 is_order_atom q (slot i) = is_type truth (spot_type q (spot_of (slot i)))
 is_order_atom q (one (is_made_by c) a) = has_spot (spot_of a)
@@ -71,6 +79,7 @@ is_order_atom q (equal a b) = is_equality q a b
 is_order_atom q (two o a b) = cond (is_order_sign o) (is_comparison q a b) (cond (is_differ o) (is_equality q a b) false)
 is_order_atom q _ = false
 
+-- whether all of them are
 abbrev pub all_order : Query → List Expr → Bool
 all_order q [] = true
 all_order q (e ∷ es) = is_order_atom q e && all_order q es

@@ -7,6 +7,7 @@ use Rattle.txs_guard.specs.Query.{Query}
 use Rattle.txs_guard.specs.Place.{Spot, spot_of, spot_type, is_type}
 use Rattle.txs_guard.specs.Atom.{atoms_of_all, fixed_value}
 
+-- selectors, each by its constructor and its field, the innermost first
 abbrev pub Path : Type 0
 Path = List (ℕ × ℕ)
 
@@ -50,10 +51,12 @@ abbrev mutual
   texts_in_each no_value = []
   texts_in_each (and_value v vs) = texts_in v ++ texts_in_each vs
 
+-- as a list
 abbrev pub some_list : {A : Type 0} → Option A → List A
 some_list None = []
 some_list (Some x) = x ∷ []
 
+-- what is made of each, in one list
 abbrev pub flat : {A B : Type 0} → (A → List B) → List A → List B
 flat f [] = []
 flat f (x ∷ xs) = f x ++ flat f xs
@@ -76,6 +79,7 @@ abbrev pub prefixes : Path → List Path
 prefixes [] = [] ∷ []
 prefixes (s ∷ p) = [] ∷ map (λ r. s ∷ r) (prefixes p)
 
+-- a place
 abbrev pub spot : ℕ → Path → Spot
 spot i p = record { base = i; path = p }
 
@@ -83,38 +87,46 @@ spot i p = record { base = i; path = p }
 abbrev pub spots_below : List Value → Spot → List Spot
 spots_below vs s = map (spot s.base) (flat prefixes (s.path ∷ flat (λ v. map (λ p. s.path ++ p) (places_of v)) vs))
 
+-- the places that an atom mentions
 abbrev pub spots_of : Query → Expr → List Spot
 spots_of q e = flat (λ a. flat (spots_below (constants_of q e)) (some_list (spot_of a))) (sides_of e)
 
+-- each slot by itself
 abbrev pub slot_spots : ℕ → List Ty → List Spot
 slot_spots i [] = []
 slot_spots i (t ∷ ts) = spot i [] ∷ slot_spots (suc i) ts
 
+-- all places that a query mentions, in order, perhaps more than once
 abbrev pub mentioned : Query → List Spot
 mentioned q = slot_spots 0 q.slots ++ flat (spots_of q) (atoms_of_all q.conjuncts)
 
+-- the paths of the places of a slot
 abbrev pub paths_at : ℕ → List Spot → List Path
 paths_at i [] = []
 paths_at i (s ∷ ss) = cond (eqb s.base i) (s.path ∷ paths_at i ss) (paths_at i ss)
 
+-- whether two paths are equal
 abbrev pub same_path : Path → Path → Bool
 same_path [] [] = true
 same_path [] (t ∷ ts) = false
 same_path (s ∷ ss) [] = false
 same_path (s ∷ ss) (t ∷ ts) = (eqb s.0 t.0 && eqb s.1 t.1) && same_path ss ts
 
+-- whether two places are equal
 abbrev pub same_spot : Spot → Spot → Bool
 same_spot s t = eqb s.base t.base && same_path s.path t.path
 
+-- whether it is among these
 abbrev pub any_is : {A : Type 0} → (A → A → Bool) → A → List A → Bool
 any_is same x [] = false
 any_is same x (y ∷ ys) = same x y || any_is same x ys
 
--- each once, by first appearance from the end of what was seen
+-- each once, at its first appearance, but for those that were seen
 abbrev pub once : {A : Type 0} → (A → A → Bool) → List A → List A → List A
 once same seen [] = []
 once same seen (x ∷ xs) = cond (any_is same x seen) (once same seen xs) (x ∷ once same (x ∷ seen) xs)
 
+-- those of this type
 abbrev pub of_type : Query → Ty → List Spot → List Spot
 of_type q t [] = []
 of_type q t (s ∷ ss) = cond (is_type t (spot_type q (Some s))) (s ∷ of_type q t ss) (of_type q t ss)
@@ -123,11 +135,14 @@ of_type q t (s ∷ ss) = cond (is_type t (spot_type q (Some s))) (s ∷ of_type 
 abbrev pub places_with : Query → Ty → List Spot
 places_with q t = once same_spot [] (of_type q t (mentioned q))
 
+-- the constants of a query, in order
 abbrev pub constants : Query → List Value
 constants q = flat (constants_of q) (atoms_of_all q.conjuncts)
 
+-- the Ints of its constants
 abbrev pub numbers : Query → List ℤ
 numbers q = flat numbers_in (constants q)
 
+-- the texts of its constants, each once, by first appearance
 abbrev pub texts : Query → List (List ℕ)
 texts q = once bytes_eq [] (flat texts_in (constants q))

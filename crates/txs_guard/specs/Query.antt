@@ -27,10 +27,12 @@ abbrev mutual
   slots_of_each none = []
   slots_of_each (more e es) = slots_of e ++ slots_of_each es
 
+-- the slots of conjuncts, in order
 abbrev pub slots_of_all : List Expr → List ℕ
 slots_of_all [] = []
 slots_of_all (e ∷ es) = slots_of e ++ slots_of_all es
 
+-- whether two lists have one in common
 abbrev pub share : List ℕ → List ℕ → Bool
 share [] ys = false
 share (x ∷ xs) ys = has ys x || share xs ys
@@ -57,6 +59,7 @@ groups (suc n) (e ∷ es) =
     let ss = grown (length es) (slots_of e) es in
     (e ∷ touching ss es) ∷ groups n (apart ss es)
 
+-- each once, but for those that were seen
 abbrev pub distinct_after : List ℕ → List ℕ → List ℕ
 distinct_after seen [] = []
 distinct_after seen (x ∷ xs) = cond (has seen x) (distinct_after seen xs) (x ∷ distinct_after (x ∷ seen) xs)
@@ -65,6 +68,7 @@ distinct_after seen (x ∷ xs) = cond (has seen x) (distinct_after seen xs) (x �
 abbrev pub distinct : List ℕ → List ℕ
 distinct xs = distinct_after [] xs
 
+-- a type, and Int where there is none
 abbrev pub type_or_whole : Option Ty → Ty
 type_or_whole None = whole
 type_or_whole (Some t) = t
@@ -80,6 +84,7 @@ pub record QueryPart : Type 0 where
   pub query : Query
   pub slots : List ℕ
 
+-- the query of a group of conjuncts
 abbrev pub part_for : Defs → List Ty → List Expr → QueryPart
 part_for defs types es =
     let ss = distinct (slots_of_all es) in
@@ -92,5 +97,6 @@ part_for defs types es =
       slots = ss;
     }
 
+-- the queries of guards over slots of these types
 abbrev pub split : Defs → List Expr → List Ty → List QueryPart
 split defs guards types = map (part_for defs types) (groups (length guards) guards)

@@ -3,13 +3,14 @@ use Rattle.std.proofs.Common.{◌≡◌, ℕ, zero, suc, ◌+◌, ◌≤◌, ℤ
 use Rattle.std.specs.Prelude.{Option, Some, None, slice_get}
 use Rattle.std.proofs.lemmas.Int.{ints}
 use Rattle.std.proofs.lemmas.Bool.{and_parts, both_ways, eqb-true}
+use Rattle.txs_terms.specs.Action.{from}
 use Rattle.txs_values.specs.Value.{fields_in, field_types, Ty, whole, truth, string, named, Value, num, bool, text, cons, Values, no_value, and_value, Table, Field, place_of, same_value, has_type, has_fields, HaveTypes}
 use Rattle.txs_terms.specs.Eval.{Defs, Run, got, bad, long, run, eval, then_run, after, binary, fine, broken, Outcome, node_limit, height_limit, Gives, Hold, bool_true}
 use Rattle.txs_terms.specs.Expr.{Binary, plus, minus, times, divide, remainder, concat, differ, less_than, at_most, more_than, at_least, char_at, Expr, val, slot, local, constant, one, two, equal, both, either, choose, apply, build, let_in, put, put_all, filled, has_slot}
 use Rattle.txs_terms.specs.Rules.{In}
 use Rattle.txs_guard.specs.Atom.{fixed_value, value_in}
-use Rattle.txs_guard.specs.Bounds.{Bound, number_in, low, high, sign_bounds, turned, with_number, left_bounds, bounds_of, bounds_for, greatest, lowest, count_up, up_by, from_to, between, plain_made, every_value, every_slot, bounded_case}
-use Rattle.txs_guard.specs.Candidates.{cells, up_to, count_made, fields_of}
+use Rattle.txs_guard.specs.Bounds.{Bound, number_in, low, high, sign_bounds, turned, with_number, left_bounds, bounds_of, bounds_for, greatest, up_by, from_to, between, plain_made, every_value, every_slot, bounded_case}
+use Rattle.txs_guard.specs.Candidates.{cells, count_made, fields_of, least, run_up}
 use Rattle.txs_guard.specs.Mentioned.{flat}
 use Rattle.txs_guard.specs.Point.{IsPoint, IsTrueAt}
 use Rattle.txs_guard.specs.Query.{Query}
@@ -20,7 +21,7 @@ use Rattle.txs_laws.proofs.solver.Runs.{closed_gives, then_from, at_slot, place_
 
 -- ---- numbers between bounds
 
-In_count_up : (x y : ℤ) (n j : ℕ) → j ≤ n → y ≡ x +ℤ pos j → In y (count_up x n)
+In_count_up : (x y : ℤ) (n j : ℕ) → j ≤ n → y ≡ x +ℤ pos j → In y (run_up x n)
 In_count_up x y zero j h e = inl (omega (arith, ints))
 In_count_up x y (suc n) zero h e = inl (omega (arith, ints))
 In_count_up x y (suc n) (suc j) h e = inr (In_count_up (x +ℤ pos 1) y n j (omega arith) (omega (arith, ints)))
@@ -42,11 +43,11 @@ greatest_le x z [] h k = h
 greatest_le x z (y ∷ ys) h k =
     greatest_step x y z ys (int_lt x y) refl h (k y (inl refl)) (λ w l. greatest_le w z ys l (λ v i. k v (inr i)))
 
-lowest_step : (x y z : ℤ) (ys : List ℤ) (b : Bool) → z ≤ℤ x → z ≤ℤ y → ((w : ℤ) → z ≤ℤ w → z ≤ℤ lowest w ys) → z ≤ℤ cond b (lowest y ys) (lowest x ys)
+lowest_step : (x y z : ℤ) (ys : List ℤ) (b : Bool) → z ≤ℤ x → z ≤ℤ y → ((w : ℤ) → z ≤ℤ w → z ≤ℤ least w ys) → z ≤ℤ cond b (least y ys) (least x ys)
 lowest_step x y z ys true p q go = go y q
 lowest_step x y z ys false p q go = go x p
 
-lowest_ge : (x z : ℤ) (ys : List ℤ) → z ≤ℤ x → ((y : ℤ) → In y ys → z ≤ℤ y) → z ≤ℤ lowest x ys
+lowest_ge : (x z : ℤ) (ys : List ℤ) → z ≤ℤ x → ((y : ℤ) → In y ys → z ≤ℤ y) → z ≤ℤ least x ys
 lowest_ge x z [] h k = h
 lowest_ge x z (y ∷ ys) h k = lowest_step x y z ys (int_lt y x) h (k y (inl refl)) (λ w l. lowest_ge w z ys l (λ v i. k v (inr i)))
 
@@ -60,10 +61,10 @@ between_In : (ls hs : List ℤ) (z : ℤ) (vs : List Value) → between ls hs �
 between_In [] hs z vs e a b = cc
 between_In (l ∷ ls) [] z vs e a b = cc
 between_In (l ∷ ls) (h ∷ hs) z vs e a b =
-    let q : map num (from_to (greatest l ls) (lowest h hs)) ≡ vs = some_list_same e in
+    let q : map num (from_to (greatest l ls) (least h hs)) ≡ vs = some_list_same e in
     subst (λ (ws : List Value). In (num z) ws) q
-    (In_mapped num z (from_to (greatest l ls) (lowest h hs))
-    (In_from_to (greatest l ls) (lowest h hs) z (greatest_le l z ls (a l (inl refl)) (λ y i. a y (inr i))) (lowest_ge h z hs (b h (inl refl)) (λ y i. b y (inr i)))))
+    (In_mapped num z (from_to (greatest l ls) (least h hs))
+    (In_from_to (greatest l ls) (least h hs) z (greatest_le l z ls (a l (inl refl)) (λ y i. a y (inr i))) (lowest_ge h z hs (b h (inl refl)) (λ y i. b y (inr i)))))
 
 -- ---- what a true conjunct says of its bounds
 
@@ -389,12 +390,12 @@ no_fields : (table : Table) (us : Values) → has_fields table us (Some []) ≡ 
 no_fields table no_value e = refl
 no_fields table (and_value u us) e = cc
 
-made_In : (table : Table) (k c : ℕ) (us : Values) (vs : List Value) → plain_made table k (up_to 0 (count_made table)) ≡ Some vs → has_fields table us (fields_in (place_of table c) k) ≡ true
+made_In : (table : Table) (k c : ℕ) (us : Values) (vs : List Value) → plain_made table k (from 0 (count_made table)) ≡ Some vs → has_fields table us (fields_in (place_of table c) k) ≡ true
     → In (cons c us) vs
 made_In table k c us vs e h =
     let m = made table us (place_of table c) k h in
     let l = place_below 0 table c m.place m.found in
-    let g = plain_In table k (up_to 0 (count_made table)) vs c m.fields e (In_up_to 0 (count_made table) c (omega arith) (omega arith)) m.of in
+    let g = plain_In table k (from 0 (count_made table)) vs c m.fields e (In_up_to 0 (count_made table) c (omega arith) (omega arith)) m.of in
     let n = no_fields table us (ap (λ (z : List Field). has_fields table us (Some (field_types z))) (sym g.0) ∙ m.typed) in
     subst (λ (z : Values). In (cons c z) vs) (sym n) g.1
 

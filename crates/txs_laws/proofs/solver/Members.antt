@@ -2,9 +2,10 @@
 use Rattle.std.proofs.Common.{◌≡◌, ℕ, zero, suc, ◌+◌, ◌<◌, ◌≤◌, ℤ, Bool, true, false, cond, eqb, ◌⊎◌, inl, inr, List, [], ◌∷◌, ◌++◌, length, map, refl, sym, ap, subst, arith}
 use Rattle.std.specs.Prelude.{Option, Some, None, slice_get}
 use Rattle.std.proofs.lemmas.Bool.{and_parts}
+use Rattle.txs_terms.specs.Action.{from}
 use Rattle.txs_values.specs.Value.{fields_in, field_types, Ty, whole, truth, string, named, Value, num, bool, text, cons, Values, no_value, and_value, listed, packed, Table, Field, Constructor, Place, place_of, place_in, place_from, fits, has_type, has_fields, HaveTypes}
 use Rattle.txs_terms.specs.Rules.{In}
-use Rattle.txs_guard.specs.Candidates.{with_each, cells, Pools, count_made, up_to, fields_of, field_choices, each_field, made_choices, choices, slot_choices}
+use Rattle.txs_guard.specs.Candidates.{with_each, cells, Pools, count_made, fields_of, field_choices, each_field, made_choices, choices, slot_choices}
 use Rattle.txs_guard.specs.Mentioned.{Path, below, flat, paths_at}
 use Rattle.txs_guard.specs.Place.{Spot}
 use Rattle.txs_laws.proofs.rules.Lists.{In_front, In_back, In-append, In_mapped}
@@ -31,7 +32,7 @@ In_with_each v p (w ∷ vs) ps (inl e) g =
     (subst (λ (z : Value). In (v ∷ p) (map (λ q. z ∷ q) ps)) e (In_mapped (λ q. v ∷ q) p ps g))
 In_with_each v p (w ∷ vs) ps (inr h) g = In_back (v ∷ p) (map (λ q. w ∷ q) ps) (with_each vs ps) (In_with_each v p vs ps h g)
 
-pub In_up_to : (k n c : ℕ) → k ≤ c → c < k + n → In c (up_to k n)
+pub In_up_to : (k n c : ℕ) → k ≤ c → c < k + n → In c (from k n)
 In_up_to k zero c h l = absurd (omega arith)
 In_up_to k (suc n) c h l = elim (split k c h) [ inl e ↦ inl (sym e) | inr g ↦ inr (In_up_to (suc k) n c g (omega arith)) ]
   where
@@ -138,7 +139,7 @@ module _ (s : Shape) (N : ℤ → Type 0) (T : Text → Type 0) (pools : Pools) 
         let b' = subst (λ (z : Value). In z (map (λ (us : List Value). cons c (packed us)) (cells (each_field s.default go c 0 m.fields ps)))) (ap (cons c) (packed_listed w)) b in
         let b'' = subst (λ (o : Option (List Field)). In (cons c w) (made_choices s.default go c o ps)) (sym m.of) b' in
         let l = place_below 0 s.table c m.place m.found in
-        let f = In_flat (λ (x : ℕ). made_choices s.default go x (fields_of (place_of s.table x) n) ps) c (cons c w) (up_to 0 (count_made s.table))
+        let f = In_flat (λ (x : ℕ). made_choices s.default go x (fields_of (place_of s.table x) n) ps) c (cons c w) (from 0 (count_made s.table))
         (In_up_to 0 (count_made s.table) c (omega arith) (omega arith)) b'' in
         subst (λ (fs : List Field). In (cons c (squash_each s ps c 0 fs vs)) (choices s.table s.default pools (suc left) (named n) ps)) (sym m.at) f
 

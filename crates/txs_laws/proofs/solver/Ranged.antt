@@ -2,13 +2,14 @@
 use Rattle.std.proofs.Common.{◌≡◌, ℕ, zero, suc, ℤ, pos, negsuc, ◌+ℤ◌, ◌-ℤ◌, ◌≤ℤ◌, ◌<ℤ◌, int_lt, Bool, true, false, cond, inl, inr, List, [], ◌∷◌, ◌++◌, map, refl, sym, ap, ◌∙◌, subst, arith}
 use Rattle.std.specs.Prelude.{Option, Some, None}
 use Rattle.std.proofs.lemmas.Int.{ints}
+use Rattle.txs_terms.specs.Action.{from}
 use Rattle.txs_values.specs.Value.{Ty, whole, truth, string, named, Value, num, bool, cons, no_value, Table, Field, place_of, has_type, has_fields, HaveTypes, fits}
 use Rattle.txs_terms.specs.Expr.{Binary, plus, minus, times, divide, remainder, concat, differ, less_than, at_most, more_than, at_least, char_at, Expr, val, slot, local, constant, one, two, equal, both, either, choose, apply, build, let_in}
 use Rattle.txs_terms.specs.Rules.{In}
 use Rattle.txs_terms.specs.Typed.{Signatures, AreTyped, AreGuards}
 use Rattle.txs_guard.specs.Query.{Query}
-use Rattle.txs_guard.specs.Bounds.{Bound, low, high, sign_bounds, turned, left_bounds, bounds_of, bounds_for, greatest, lowest, count_up, up_by, from_to, between, plain_made, every_value, every_slot, bounded_case}
-use Rattle.txs_guard.specs.Candidates.{cells, up_to, count_made, fields_of}
+use Rattle.txs_guard.specs.Bounds.{Bound, low, high, sign_bounds, turned, left_bounds, bounds_of, bounds_for, greatest, up_by, from_to, between, plain_made, every_value, every_slot, bounded_case}
+use Rattle.txs_guard.specs.Candidates.{cells, count_made, fields_of, least, run_up}
 use Rattle.txs_guard.specs.Mentioned.{flat}
 use Rattle.txs_guard.specs.Point.{IsPoint, IsTypedQuery}
 use Rattle.txs_laws.proofs.typing.Facts.{Facts}
@@ -95,7 +96,7 @@ module _ (facts : Facts) (q : Query) (signatures : Signatures) (typed : AreTyped
 
 -- ---- numbers between bounds
 
-count_between : (x v : ℤ) (n : ℕ) → In v (count_up x n) → (x ≤ℤ v) × (v ≤ℤ (x +ℤ pos n))
+count_between : (x v : ℤ) (n : ℕ) → In v (run_up x n) → (x ≤ℤ v) × (v ≤ℤ (x +ℤ pos n))
 count_between x v zero (inl e) = (omega (arith, ints), omega (arith, ints))
 count_between x v zero (inr h) = absurd h
 count_between x v (suc n) (inl e) = (omega (arith, ints), omega (arith, ints))
@@ -114,11 +115,11 @@ greatest_ge : (x : ℤ) (ys : List ℤ) → x ≤ℤ greatest x ys
 greatest_ge x [] = omega (arith, ints)
 greatest_ge x (y ∷ ys) = greatest_step x y ys (int_lt x y) refl (λ w. greatest_ge w ys)
 
-lowest_step : (x y : ℤ) (ys : List ℤ) (b : Bool) → int_lt y x ≡ b → ((w : ℤ) → lowest w ys ≤ℤ w) → cond b (lowest y ys) (lowest x ys) ≤ℤ x
+lowest_step : (x y : ℤ) (ys : List ℤ) (b : Bool) → int_lt y x ≡ b → ((w : ℤ) → least w ys ≤ℤ w) → cond b (least y ys) (least x ys) ≤ℤ x
 lowest_step x y ys true e go = let g = go y in let l : y <ℤ x = grind (arith, ints) in omega (arith, ints)
 lowest_step x y ys false e go = go x
 
-lowest_le : (x : ℤ) (ys : List ℤ) → lowest x ys ≤ℤ x
+lowest_le : (x : ℤ) (ys : List ℤ) → least x ys ≤ℤ x
 lowest_le x [] = omega (arith, ints)
 lowest_le x (y ∷ ys) = lowest_step x y ys (int_lt y x) refl (λ w. lowest_le w ys)
 
@@ -133,9 +134,9 @@ module _ (table : Table) where
   between_typed [] hs vs e a b w h = cc
   between_typed (l ∷ ls) [] vs e a b w h = cc
   between_typed (l ∷ ls) (u ∷ hs) vs e a b w h =
-      let q : map num (from_to (greatest l ls) (lowest u hs)) ≡ vs = some_list_same e in
-      let m = In-map num w (from_to (greatest l ls) (lowest u hs)) (subst (λ (z : List Value). In w z) (sym q) h) in
-      let r = up_between (greatest l ls) (lowest u hs) m.0 (lowest u hs -ℤ greatest l ls) refl m.1 in
+      let q : map num (from_to (greatest l ls) (least u hs)) ≡ vs = some_list_same e in
+      let m = In-map num w (from_to (greatest l ls) (least u hs)) (subst (λ (z : List Value). In w z) (sym q) h) in
+      let r = up_between (greatest l ls) (least u hs) m.0 (least u hs -ℤ greatest l ls) refl m.1 in
       let x = a l (inl refl) in
       let y = b u (inl refl) in
       let r0 = r.0 in let r1 = r.1 in let x2 = x.2 in let y2 = y.2 in
@@ -190,7 +191,7 @@ module _ (table : Table) where
         pick (inr (inl x)) = ap (λ (z : Value). has_type table z truth) x
         pick (inr (inr x)) = absurd x
     value_typed i string vs e w h = cc
-    value_typed i (named k) vs e w h = plain_typed k (up_to 0 (count_made table)) vs e w h
+    value_typed i (named k) vs e w h = plain_typed k (from 0 (count_made table)) vs e w h
 
     slots_typed : (i : ℕ) (ts : List Ty) (vss : List (List Value)) → every_slot table bs i ts ≡ Some vss → (c : List Value) → In c (cells vss) → HaveTypes table c ts
     slots_typed i [] vss e c h = none (subst (λ (z : List (List Value)). In c (cells z)) (sym (some_list_same e)) h)

@@ -3,11 +3,12 @@ use Rattle.std.proofs.Common.{◌≡◌, ℕ, zero, suc, ℤ, pos, ◌-ℤ◌, B
 use Rattle.std.specs.Prelude.{Option, Some, None}
 use Rattle.std.specs.Ordering.{int_eq}
 use Rattle.std.proofs.lemmas.Bool.{and_from}
+use Rattle.txs_terms.specs.Action.{from}
 use Rattle.txs_values.specs.Default.{default_of}
 use Rattle.txs_values.specs.Value.{fields_in, field_types, Ty, whole, truth, string, named, Value, num, text, cons, packed, Table, Field, Place, place_of, fits, has_type, has_fields, HaveTypes}
 use Rattle.txs_terms.specs.Rules.{In}
 use Rattle.txs_terms.specs.Typed.{IsType, AreTypes, IsTable}
-use Rattle.txs_guard.specs.Candidates.{order_candidates, with_each, cells, insert, sort_in_range, run_up, runs_up, least, Pools, pools_of, count_made, up_to, fields_of, field_choices, each_field, made_choices, choices, longest, slot_choices}
+use Rattle.txs_guard.specs.Candidates.{order_candidates, with_each, cells, insert, sort_in_range, run_up, runs_up, least, Pools, pools_of, count_made, fields_of, field_choices, each_field, made_choices, choices, longest, slot_choices}
 use Rattle.txs_guard.specs.Mentioned.{Path, below, paths_at, mentioned, numbers, places_with}
 use Rattle.txs_guard.specs.Place.{Spot}
 use Rattle.txs_guard.specs.Point.{IsPoint}
@@ -110,7 +111,7 @@ module _ (table : Table) (default : Ty → Value) (pools : Pools) (inside : (x :
   choices_typed left string ps v h = let m = In-map text v pools.text_pool h in ap (λ (z : Value). has_type table z string) m.2
   choices_typed zero (named k) ps v h = absurd h
   choices_typed (suc left) (named k) ps v h =
-      let m = In-flat (λ (c : ℕ). made_choices default (choices table default pools left) c (fields_of (place_of table c) k) ps) v (up_to 0 (count_made table)) h in
+      let m = In-flat (λ (c : ℕ). made_choices default (choices table default pools left) c (fields_of (place_of table c) k) ps) v (from 0 (count_made table)) h in
       made_typed (choices table default pools left) (choices_typed left) m.0 k (fields_of (place_of table m.0) k) refl ps v m.2
 
   slots_typed : (left : ℕ) (ss : List Spot) (i : ℕ) (ts : List Ty) (c : List Value) → In c (cells (slot_choices (choices table default pools left) ss i ts)) → HaveTypes table c ts
