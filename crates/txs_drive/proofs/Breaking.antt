@@ -1,5 +1,5 @@
 -- The commands of a source that are carried out up to some place, and the session that is cut short there.
-use Rattle.std.proofs.Common.{◌≡◌, ◌≤◌, ◌+◌, inl, inr, ℕ, Bool, true, false, List, [], ◌∷◌, ◌++◌, Option, length, refl, sym, ◌∙◌, ap, append-nil, append_assoc, subst, arith, length-append}
+use Rattle.std.proofs.Common.{◌≡◌, ◌≤◌, ◌+◌, inl, inr, ℕ, Bool, true, List, [], ◌++◌, Option, length, refl, sym, ◌∙◌, ap, append-nil, append_assoc, subst, arith, length-append}
 use Rattle.std.specs.List.{AllByRecursion}
 use Rattle.txs_outside.specs.declared.sut.SutEntry.{SutEntry}
 use Rattle.txs_outside.specs.Causes.{Rose}
@@ -8,7 +8,7 @@ use Rattle.txs_drive.specs.declared.driver.Stop.{Stop}
 use Rattle.txs_drive.specs.declared.driver.Stop.TheVariants as stop
 use Rattle.txs_drive.specs.declared.model.Model.{Model}
 use Rattle.txs_drive.specs.Session.{State, first, dialled_of}
-use Rattle.txs_drive.specs.Course.{Event, lines_in, notes_in, text_of, hung_after, calls_in, sent_in, told_in, due_in}
+use Rattle.txs_drive.specs.Course.{lines_in, notes_in, text_of, hung_after, calls_in, sent_in, told_in, due_in}
 use Rattle.txs_drive.specs.Served.{Ending, open', end, command_lines, last_part, last_of}
 use Rattle.txs_drive.specs.Cut.{Cut, by_sink, by_memory, CutShort, Torn, IsTail, IsTold, no_memory, dialled_by}
 use Rattle.txs_drive.specs.Going.{HasNoFeed, joined}
