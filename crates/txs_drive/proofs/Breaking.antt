@@ -1,5 +1,5 @@
 -- The commands of a source that are carried out up to some place, and the session that is cut short there.
-use Rattle.std.proofs.Common.{◌≡◌, ◌≤◌, ◌+◌, inl, inr, ℕ, Bool, true, false, List, [], ◌∷◌, ◌++◌, Option, length, refl, sym, ◌∙◌, ap, append-nil, append_assoc, subst, arith, length-append}
+use Rattle.std.proofs.Common.{◌≡◌, ◌≤◌, ◌+◌, inl, inr, ℕ, Bool, true, List, [], ◌++◌, Option, length, refl, sym, ◌∙◌, ap, append-nil, append_assoc, subst, arith, length-append}
 use Rattle.std.specs.List.{AllByRecursion}
 use Rattle.txs_outside.specs.declared.sut.SutEntry.{SutEntry}
 use Rattle.txs_outside.specs.Causes.{Rose}
@@ -8,7 +8,7 @@ use Rattle.txs_drive.specs.declared.driver.Stop.{Stop}
 use Rattle.txs_drive.specs.declared.driver.Stop.TheVariants as stop
 use Rattle.txs_drive.specs.declared.model.Model.{Model}
 use Rattle.txs_drive.specs.Session.{State, first, dialled_of}
-use Rattle.txs_drive.specs.Course.{Event, lines_in, notes_in, text_of, hung_after, calls_in, sent_in, told_in, due_in}
+use Rattle.txs_drive.specs.Course.{lines_in, notes_in, text_of, hung_after, calls_in, sent_in, told_in, due_in}
 use Rattle.txs_drive.specs.Served.{Ending, open', end, command_lines, last_part, last_of}
 use Rattle.txs_drive.specs.Cut.{Cut, by_sink, by_memory, CutShort, Torn, IsTail, IsTold, no_memory, dialled_by}
 use Rattle.txs_drive.specs.Going.{HasNoFeed, joined}
@@ -27,9 +27,9 @@ lines_read e bytes rest lines split each = ap (λ (b : List ℕ). command_lines 
 
 -- between two pieces
 pub broke_read : (m : Model) (t : State) (d : ℕ) (g0 g1 g2 l0 l1 l2 : Option (List ℕ)) (at_end : Bool) (k0 k1 : Option (List ℕ)) (u0 u1 : Option (List SutEntry)) (h0 h1 : Option ℕ) (f0 f1 n : ℕ) (pending bytes : List ℕ)
-    → Talked m t g0 g1 l0 l1 k0 k1 u0 u1 h0 h1 f0 f1 n pending → Grows g1 g2 bytes → Loses l1 l2 bytes → n ≤ 16777216 → t.todo ≡ [] → d ≡ dialled_of t.run
+    → Talked m t g0 g1 l0 l1 k0 k1 u0 u1 h0 h1 f0 f1 n pending → Grows g1 g2 bytes → Loses l1 l2 bytes → n ≤ 16777216 → length bytes + n ≤ 16777217 → t.todo ≡ [] → d ≡ dialled_of t.run
     → Broke stop.NoMemory m d g0 g2 l0 l2 at_end k0 k1 u0 u1 h0 h1 f0 f1
-broke_read m t d g0 g1 g2 l0 l1 l2 at_end k0 k1 u0 u1 h0 h1 f0 f1 n pending bytes x g lo within z e = record {
+broke_read m t d g0 g1 g2 l0 l1 l2 at_end k0 k1 u0 u1 h0 h1 f0 f1 n pending bytes x g lo within most z e = record {
   given = x.given ++ bytes;
   commands = x.given;
   unread = bytes;
@@ -40,6 +40,7 @@ broke_read m t d g0 g1 g2 l0 l1 l2 at_end k0 k1 u0 u1 h0 h1 f0 f1 n pending byte
   lost = loses_then l0 l1 l2 x.given bytes x.lost lo;
   split = refl;
   within = omega (arith, x.count, within);
+  most = omega (arith, length-append x.given bytes, x.count, most);
   ended = inl refl;
   read = lines_read open' x.given pending x.took.lines x.took.split x.took.each ∙ sym (append-nil (x.took.lines ++ command_lines pending open'));
   stopped = went_stopped stop.NoMemory m first t d k0 k1 k1 u0 u1 u1 h0 h1 h1 f0 f1 f1 x.took.lines (command_lines pending open') x.took.went (stopped_here m t d k1 u1 h1 f1 (command_lines pending open') (ap due_in z) e);
@@ -62,6 +63,7 @@ broke_piece y m t d g0 g1 g2 l0 l1 l2 at_end k0 k1 k2 u0 u1 u2 h0 h1 h2 f0 f1 f2
       lost = loses_then l0 l1 l2 x.given piece x.lost lo;
       split = sym (append-nil (x.given ++ piece));
       within = omega (arith, length-append x.given piece, x.count, within);
+      most = omega (arith, length-append x.given piece, x.count, within);
       ended = inl refl;
       read = lines_read open' (x.given ++ piece) whole.rest whole.lines whole.split whole.each;
       stopped = whole.stopped;
@@ -83,6 +85,7 @@ broke_last y m t d g0 g1 g2 l0 l1 l2 at_end k0 k1 k2 u0 u1 u2 h0 h1 h2 f0 f1 f2 
   lost = loses_then l0 l1 l2 x.given [] x.lost lo;
   split = sym (append-nil (x.given ++ []));
   within = omega (arith, length-append x.given [], x.count, within);
+  most = omega (arith, length-append x.given [], x.count, within);
   ended = inr (refl, ended.0, refl, loses_all l0 l1 x.given x.lost ended.1);
   read = ap (λ (b : List ℕ). command_lines b end) (append-nil x.given)
       ∙ (lines_read end x.given pending x.took.lines x.took.split x.took.each
@@ -118,6 +121,7 @@ cut_short y cut m d g0 g1 l0 l1 at_end k0 k1 k2 u0 u1 u2 h0 h1 h2 f0 f1 f2 tail 
       lost = x.lost;
       split = x.split;
       within = x.within;
+      most = x.most;
       ended = x.ended;
       leads = s.leads;
       lines = lines_cut x.ending x.commands x.lines x.behind (lines_in s.events) s.behind x.read s.read;

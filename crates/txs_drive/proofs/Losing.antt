@@ -1,5 +1,5 @@
 -- What a source has left.
-use Rattle.std.proofs.Common.{◌≡◌, ℕ, List, [], ◌++◌, Option, None, Some, refl, sym, ◌∙◌, ap, append_assoc}
+use Rattle.std.proofs.Common.{ℕ, List, [], ◌++◌, Option, None, Some, refl, sym, ◌∙◌, ap, append_assoc}
 use Rattle.txs_outside.specs.Known.{Loses, Tells}
 
 pub loses_none : (a : Option (List ℕ)) → Loses a a []

@@ -1,5 +1,5 @@
 -- An action that is sent, and the line that says so, over plain variables.
-use Rattle.std.proofs.Common.{◌≡◌, ◌∷◌, ◌+◌, ◌<◌, ◌∙◌, [], ℕ, ℤ, Bool, true, false, List, Option, None, Some, length, refl, sym, ap, subst, arith}
+use Rattle.std.proofs.Common.{◌≡◌, ◌∷◌, ◌∙◌, [], ℕ, ℤ, Bool, true, false, List, Option, None, Some, sym, ap, subst}
 use Rattle.txs_outside.specs.declared.sut.SutEntry.{SutEntry}
 use Rattle.txs_outside.specs.Known.{Grows}
 use Rattle.txs_drive.specs.declared.doing.Doing.{Doing}

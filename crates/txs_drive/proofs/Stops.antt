@@ -1,9 +1,8 @@
 -- Where a session stops, over plain variables.
-use Rattle.std.proofs.Common.{◌≡◌, ◌≢◌, ◌≤◌, ◌<◌, inl, inr, ℕ, ℤ, Bool, true, false, cond, List, [], ◌∷◌, ◌++◌, Option, None, Some, Result, Ok, Err, OnErr, IfErr, IsErrAnd, length, refl, arith, append_assoc, append-nil, ap, subst, sym, ◌∙◌}
-use Rattle.std.specs.List.{AllByRecursion}
+use Rattle.std.proofs.Common.{◌≡◌, ◌≤◌, inl, inr, ℕ, Bool, true, false, cond, List, [], ◌∷◌, ◌++◌, Option, None, Some, Result, Ok, Err, OnErr, IfErr, IsErrAnd, refl, arith, append_assoc, append-nil, ap, subst, sym, ◌∙◌}
 use Rattle.txs_outside.specs.declared.sut.SutEntry.{SutEntry}
 use Rattle.txs_outside.specs.Causes.{Rose-before, Rose-after}
-use Rattle.txs_outside.specs.Known.{Grows, Stays, Adds, Grows-none, Grows-then, Adds-none, Adds-then}
+use Rattle.txs_outside.specs.Known.{Grows, Adds, Grows-none, Grows-then, Adds-none, Adds-then}
 use Rattle.txs_drive.specs.declared.driver.Stop.{Stop}
 use Rattle.txs_drive.specs.declared.driver.Stop.TheVariants as stop
 use Rattle.txs_drive.specs.declared.doing.Doing.{Doing}
@@ -15,24 +14,15 @@ use Rattle.txs_drive.specs.declared.note.Note.{Note}
 use Rattle.txs_drive.specs.Lines.{line_of}
 use Rattle.txs_drive.specs.Session.{Run, State, dialled_of}
 use Rattle.txs_drive.specs.Ready.{IsFresh}
-use Rattle.txs_drive.specs.Course.{Event, dials, Leads, stays, lines_in, notes_in, text_of, hung_after, calls_in, due_in}
-use Rattle.txs_drive.specs.Cut.{IsBeginning, Torn, IsUnheeded, dialled_by}
+use Rattle.txs_drive.specs.Course.{Event, dials, stays, lines_in, notes_in, text_of, hung_after, calls_in, due_in}
+use Rattle.txs_drive.specs.Cut.{Torn, IsUnheeded, dialled_by}
 use Rattle.txs_drive.specs.Going.{HasNoFeed, joined, Went, Took}
 use Rattle.txs_drive.specs.Stopping.{Stopped, StoppedIn}
 use Rattle.txs_drive.proofs.Courses.{leads_then, lines_in-append, notes_in-append, text_of-append, hung_after-append, calls_in-append, any_cases, stays_then}
 use Rattle.txs_drive.proofs.Feeding.{all-append, joined-append}
 use Rattle.txs_drive.proofs.Told.{unheeded_undue}
 
--- ---- a line of which not all is taken
-
-grows_same : (a b : Option (List ℕ)) → Stays a b → Grows a b []
-grows_same None b h = tt
-grows_same (Some x) None h = absurd h
-grows_same (Some x) (Some y) h = h ∙ sym (append-nil x)
-
-pub not_nothing : (xs : List ℕ) → 0 < length xs → xs ≢ []
-not_nothing [] h e = absurd (omega arith)
-not_nothing (x ∷ xs) h e = cc
+-- ---- answers and failures
 
 pub on_err : {A E P : Type 0} (r : Result A E) → P → OnErr r P
 on_err (Ok x) p = tt
@@ -48,18 +38,6 @@ ok_no_stop x e = cc
 -- a read that gave a piece did not fail
 pub piece_no_fault : {E : Type 0} (r : Read) (p : List ℕ) → r ≡ read.Piece p → ◌≡◌ {A = Result Read E} (Ok r) (Ok read.Failed) → ⊥
 piece_no_fault r p e f = cc
-
--- nothing of what is left was taken
-pub torn_here : (a b : Option (List ℕ)) (rest : List ℕ) → rest ≢ [] → Stays a b → Torn a b rest
-torn_here a b rest ne s = ([], (rest, refl, ne), grows_same a b s)
-
--- some of it was taken, and then a beginning of the rest
-pub torn_then : (a b c : Option (List ℕ)) (part rest line : List ℕ) → line ≡ part ++ rest → Grows a b part → Torn b c rest → Torn a c line
-torn_then a b c part rest line e g t = (
-  part ++ t.0,
-  (t.1.0, e ∙ (ap (λ (z : List ℕ). part ++ z) t.1.1 ∙ sym (append_assoc part t.0 t.1.0)), t.1.2),
-  Grows-then a b c part t.0 g t.2,
-)
 
 -- ---- a session that stops
 

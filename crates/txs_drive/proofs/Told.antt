@@ -9,7 +9,7 @@ use Rattle.txs_drive.specs.declared.note.Note.{Note}
 use Rattle.txs_drive.specs.declared.note.Note.TheVariants as note
 use Rattle.txs_drive.specs.declared.note.Seen.{Seen}
 use Rattle.txs_drive.specs.declared.note.Seen.TheVariants as seen
-use Rattle.txs_drive.specs.declared.note.Ending.TheVariants.{Link, Fail, Later}
+use Rattle.txs_drive.specs.declared.note.Ending.TheVariants.{Fail}
 use Rattle.txs_drive.specs.declared.sign.Sign.{Sign}
 use Rattle.txs_drive.specs.declared.sign.Sign.TheVariants as sign
 use Rattle.txs_drive.specs.Commands.{command_of}

@@ -1,5 +1,5 @@
 -- What a session of a model did that was cut short: by the sink, which failed, or by want of memory.
-use Rattle.std.specs.Prelude.{◌≡◌, ◌≢◌, ◌⊎◌, ℕ, ℤ, ◌≤◌, true, false, List, [], ◌∷◌, ◌++◌, length, codes, Option, Bool}
+use Rattle.std.specs.Prelude.{◌≡◌, ◌≢◌, ◌⊎◌, ℕ, ◌+◌, ℤ, ◌≤◌, true, false, List, [], ◌∷◌, ◌++◌, length, codes, Option, Bool}
 use Rattle.txs_outside.specs.Causes.{Rose}
 use Rattle.txs_outside.specs.Known.{Grows, Loses, Tells, Adds}
 use Rattle.txs_outside.specs.declared.sut.SutEntry.{SutEntry}
@@ -70,11 +70,12 @@ pub record CutShort (cut : Cut) (m : Model) (g0 g1 l0 l1 : Option (List ℕ)) (a
   pub final : State
   pub tail : List ℕ
   pub unheeded : List Event
-  -- what was read of the source
+  -- what was read of the source, which is at most one byte past the limit
   pub gave : Grows g0 g1 given
   pub lost : Loses l0 l1 given
   pub split : given ≡ commands ++ unread
   pub within : length commands ≤ byte_limit
+  pub most : length given ≤ byte_limit + 1
   pub ended : (ending ≡ open') ⊎ ((ending ≡ end) × (at_end ≡ true) × (unread ≡ []) × Tells l0 given)
   -- the reference run, in which no `quit` was met
   pub leads : Leads m first events final

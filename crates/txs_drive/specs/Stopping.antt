@@ -1,5 +1,5 @@
 -- How the parts of a session stop where the sink fails or memory runs out.
-use Rattle.std.specs.Prelude.{◌≡◌, ◌⊎◌, ℕ, ◌≤◌, true, false, Bool, List, [], ◌++◌, length, Option}
+use Rattle.std.specs.Prelude.{◌≡◌, ◌⊎◌, ℕ, ◌+◌, ◌≤◌, true, false, Bool, List, [], ◌++◌, length, Option}
 use Rattle.std.specs.List.{AllByRecursion}
 use Rattle.txs_outside.specs.Causes.{Rose}
 use Rattle.txs_outside.specs.Known.{Grows, Loses, Tells, Adds}
@@ -59,6 +59,7 @@ pub record Broke (stop : Stop) (m : Model) (n : ℕ) (g0 g1 l0 l1 : Option (List
   pub lost : Loses l0 l1 given
   pub split : given ≡ commands ++ unread
   pub within : length commands ≤ byte_limit
+  pub most : length given ≤ byte_limit + 1
   pub ended : (ending ≡ open') ⊎ ((ending ≡ end) × (at_end ≡ true) × (unread ≡ []) × Tells l0 given)
   pub read : command_lines commands ending ≡ lines ++ behind
   pub stopped : Stopped stop m first n k0 k1 u0 u1 h0 h1 f0 f1 lines

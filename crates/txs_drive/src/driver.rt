@@ -1,5 +1,5 @@
 ghost use Rattle.std.specs.Prelude.{◌≡◌, ◌≢◌, ◌<◌, ℕ, List, Option, false, [], ◌∷◌, IfOk, IfErr, OnOk, OnErr, IsErr, IsErrOf, Ok, Err, if◌then◌else◌};
-ghost use Rattle.txs_outside.specs.Causes.{HasCause};
+ghost use Rattle.txs_outside.specs.Causes.{FailsLast};
 ghost use Rattle.txs_outside.specs.Known.{Grows};
 ghost use Rattle.txs_terms.specs.Sets.{IsPlain};
 ghost use Rattle.txs_terms.specs.View.{term_of};
@@ -79,7 +79,7 @@ impl From<Failed> for Stop {
 pub(crate) fn say<K: Sink>(sink: &mut K, text: &str) -> Result<(), Failed>
     ensures ok { OnOk result (Grows (K.taken sink.old) (K.taken sink.new) text.now) }
     ensures torn { OnErr result (Torn (K.taken sink.old) (K.taken sink.new) text.now) }
-    ensures cause { HasCause (K.faults sink.old) (K.faults sink.new) (IsErr result) }
+    ensures cause { FailsLast (K.faults sink.old) (K.faults sink.new) (K.has_failed sink.new) (IsErr result) }
     ensures calm { OnOk result (K.faults sink.new ≡ K.faults sink.old) }
 {
     let mut rest = text.as_bytes();
@@ -216,7 +216,7 @@ fn send<K: Sink, U: Sut>(
         (U.hang_ups sut.old) (U.hang_ups sut.new) (U.faults sut.old) (U.faults sut.new) []) }
     ensures tracks { Tracks (U.dialled sut.old) (U.dialled sut.new) (ends_in session.old) (ends_in session.new) }
     ensures undue { OnOk result (due_in (state_of session.new).todo ≡ []) }
-    ensures sink { HasCause (K.faults sink.old) (K.faults sink.new) (IsErrOf result Stop.Sink) }
+    ensures sink { FailsLast (K.faults sink.old) (K.faults sink.new) (K.has_failed sink.new) (IsErrOf result Stop.Sink) }
     ensures calm { result ≢ Err Stop.Sink → K.faults sink.new ≡ K.faults sink.old }
 {
     let line = sent_line(alloc, value)?;
@@ -251,7 +251,7 @@ fn step<K: Sink, U: Sut>(
         (U.hang_ups sut.old) (U.hang_ups sut.new) (U.faults sut.old) (U.faults sut.new) []) }
     ensures tracks { Tracks (U.dialled sut.old) (U.dialled sut.new) (ends_in session.old) (ends_in session.new) }
     ensures undue { OnOk result (due_in (state_of session.new).todo ≡ []) }
-    ensures sink { HasCause (K.faults sink.old) (K.faults sink.new) (IsErrOf result Stop.Sink) }
+    ensures sink { FailsLast (K.faults sink.old) (K.faults sink.new) (K.has_failed sink.new) (IsErrOf result Stop.Sink) }
     ensures calm { result ≢ Err Stop.Sink → K.faults sink.new ≡ K.faults sink.old }
 {
     match session.next() {
@@ -302,7 +302,7 @@ pub(crate) fn carry_out<K: Sink, U: Sut>(
     ensures stopped { IfErr result (λ stop. Stopped stop model.now (state_of session.old) (ends_in session.new) (K.taken sink.old) (K.taken sink.new) (U.calls sut.old) (U.calls sut.new)
         (U.hang_ups sut.old) (U.hang_ups sut.new) (U.faults sut.old) (U.faults sut.new) (line.now ∷ [])) }
     ensures tracks { Tracks (U.dialled sut.old) (U.dialled sut.new) (ends_in session.old) (ends_in session.new) }
-    ensures sink { HasCause (K.faults sink.old) (K.faults sink.new) (IsErrOf result Stop.Sink) }
+    ensures sink { FailsLast (K.faults sink.old) (K.faults sink.new) (K.has_failed sink.new) (IsErrOf result Stop.Sink) }
     ensures calm { result ≢ Err Stop.Sink → K.faults sink.new ≡ K.faults sink.old }
 {
     session.line(alloc, model, line)?;

@@ -1,5 +1,5 @@
-ghost use Rattle.std.specs.Prelude.{◌≡◌, ◌≢◌, ◌<◌, ◌≤◌, ℕ, List, ◌+◌, ◌++◌, ◌∷◌, [], true, false, IfOk, IfErr, OnOk, OnErr, IsErrOf, IsTrue, Ok, Err};
-ghost use Rattle.txs_outside.specs.Causes.{HasCause};
+ghost use Rattle.std.specs.Prelude.{◌≡◌, ◌≢◌, ◌<◌, ◌≤◌, ℕ, List, ◌+◌, ◌++◌, ◌∷◌, [], true, false, length, IfOk, IfErr, OnOk, OnErr, IsErrOf, IsTrue, Ok, Err};
+ghost use Rattle.txs_outside.specs.Causes.{FailsLast};
 ghost use Rattle.txs_outside.specs.Known.{Grows, Loses, Tells};
 ghost use Rattle.txs_terms.specs.Sets.{IsPlain};
 ghost use Rattle.txs_terms.specs.View.{term_of};
@@ -60,7 +60,7 @@ fn take_byte<K: Sink, U: Sut>(
     ensures stopped { IfErr result (λ stop. StoppedIn stop model.now (state_of session.old) (ends_in session.new) (K.taken sink.old) (K.taken sink.new) (U.calls sut.old) (U.calls sut.new)
         (U.hang_ups sut.old) (U.hang_ups sut.new) (U.faults sut.old) (U.faults sut.new) (pending.old ++ byte ∷ [])) }
     ensures tracks { Tracks (U.dialled sut.old) (U.dialled sut.new) (ends_in session.old) (ends_in session.new) }
-    ensures sink { HasCause (K.faults sink.old) (K.faults sink.new) (IsErrOf result Stop.Sink) }
+    ensures sink { FailsLast (K.faults sink.old) (K.faults sink.new) (K.has_failed sink.new) (IsErrOf result Stop.Sink) }
     ensures calm { result ≢ Err Stop.Sink → K.faults sink.new ≡ K.faults sink.old }
 {
     if byte == b'\n' {
@@ -98,7 +98,7 @@ fn take_piece<K: Sink, U: Sut>(
     ensures stopped { IfErr result (λ stop. StoppedIn stop model.now (state_of session.old) (ends_in session.new) (K.taken sink.old) (K.taken sink.new) (U.calls sut.old) (U.calls sut.new)
         (U.hang_ups sut.old) (U.hang_ups sut.new) (U.faults sut.old) (U.faults sut.new) (pending.old ++ piece.now)) }
     ensures tracks { Tracks (U.dialled sut.old) (U.dialled sut.new) (ends_in session.old) (ends_in session.new) }
-    ensures sink { HasCause (K.faults sink.old) (K.faults sink.new) (IsErrOf result Stop.Sink) }
+    ensures sink { FailsLast (K.faults sink.old) (K.faults sink.new) (K.has_failed sink.new) (IsErrOf result Stop.Sink) }
     ensures calm { result ≢ Err Stop.Sink → K.faults sink.new ≡ K.faults sink.old }
 {
     for b in piece {
@@ -114,10 +114,10 @@ fn read_piece<S: Source>(alloc: Global, source: &mut S, room: usize) -> Result<R
     requires most { room ≤ 4096 }
     ensures given { IfOk result (λ r. Grows (S.given source.old) (S.given source.new) (read_bytes r)) }
     ensures lost { IfOk result (λ r. Loses (S.left source.old) (S.left source.new) (read_bytes r)) }
-    ensures unread { OnErr result ((bytes : List ℕ) × Grows (S.given source.old) (S.given source.new) bytes × Loses (S.left source.old) (S.left source.new) bytes) }
+    ensures unread { OnErr result ((bytes : List ℕ) × (length bytes ≤ room) × Grows (S.given source.old) (S.given source.new) bytes × Loses (S.left source.old) (S.left source.new) bytes) }
     ensures size { IfOk result (λ r. IsRead room r) }
     ensures end { IfOk result (λ r. r ≡ Read.End → (S.at_end source.new ≡ true) × Tells (S.left source.old) []) }
-    ensures cause { HasCause (S.faults source.old) (S.faults source.new) (result ≡ Ok Read.Failed) }
+    ensures cause { FailsLast (S.faults source.old) (S.faults source.new) (S.has_failed source.new) (result ≡ Ok Read.Failed) }
     ensures calm { result ≢ Ok Read.Failed → S.faults source.new ≡ S.faults source.old }
 {
     let mut buf = [0u8; 4096];
@@ -135,6 +135,7 @@ fn room_left(taken: usize) -> usize
     ensures most { result ≤ 4096 }
     ensures within { taken < 16777216 → result + taken ≤ 16777216 }
     ensures one { taken ≡ 16777216 → result ≡ 1 }
+    ensures past { result + taken ≤ 16777217 }
 {
     if taken == LIMIT {
         1
@@ -164,7 +165,7 @@ fn take_last<K: Sink, U: Sut>(
     ensures stopped { IfErr result (λ stop. Stopped stop model.now (state_of session.old) (ends_in session.new) (K.taken sink.old) (K.taken sink.new) (U.calls sut.old) (U.calls sut.new)
         (U.hang_ups sut.old) (U.hang_ups sut.new) (U.faults sut.old) (U.faults sut.new) (last_part end line.now)) }
     ensures tracks { Tracks (U.dialled sut.old) (U.dialled sut.new) (ends_in session.old) (ends_in session.new) }
-    ensures sink { HasCause (K.faults sink.old) (K.faults sink.new) (IsErrOf result Stop.Sink) }
+    ensures sink { FailsLast (K.faults sink.old) (K.faults sink.new) (K.has_failed sink.new) (IsErrOf result Stop.Sink) }
     ensures calm { result ≢ Err Stop.Sink → K.faults sink.new ≡ K.faults sink.old }
 {
     if line.is_empty() {
@@ -194,9 +195,9 @@ pub(crate) fn converse<S: Source, K: Sink, U: Sut>(
     ensures broke { IfErr result (λ stop. Broke stop model.now (ends_in session.new) (S.given source.old) (S.given source.new) (S.left source.old) (S.left source.new) (S.at_end source.new) (K.taken sink.old) (K.taken sink.new) (U.calls sut.old) (U.calls sut.new)
         (U.hang_ups sut.old) (U.hang_ups sut.new) (U.faults sut.old) (U.faults sut.new)) }
     ensures tracks { Tracks (U.dialled sut.old) (U.dialled sut.new) (ends_in session.old) (ends_in session.new) }
-    ensures source { HasCause (S.faults source.old) (S.faults source.new) (result ≡ Ok Finish.Failed) }
+    ensures source { FailsLast (S.faults source.old) (S.faults source.new) (S.has_failed source.new) (result ≡ Ok Finish.Failed) }
     ensures calm_source { result ≢ Ok Finish.Failed → S.faults source.new ≡ S.faults source.old }
-    ensures sink { HasCause (K.faults sink.old) (K.faults sink.new) (IsErrOf result Stop.Sink) }
+    ensures sink { FailsLast (K.faults sink.old) (K.faults sink.new) (K.has_failed sink.new) (IsErrOf result Stop.Sink) }
     ensures calm { result ≢ Err Stop.Sink → K.faults sink.new ≡ K.faults sink.old }
 {
     let mut pending = Bytes::new(alloc);

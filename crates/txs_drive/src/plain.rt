@@ -1,5 +1,5 @@
 ghost use Rattle.std.specs.Prelude.{◌≡◌, ◌≢◌, ◌⊎◌, ◌<◌, []};
-ghost use Rattle.txs_outside.specs.Causes.{Rose};
+ghost use Rattle.txs_outside.specs.Causes.{FailsLast};
 ghost use Rattle.txs_outside.specs.Known.{Grows, Adds};
 ghost use Rattle.txs_terms.specs.Sets.{IsPlain};
 ghost use Rattle.txs_terms.specs.View.{term_of};
@@ -21,7 +21,7 @@ pub fn close<K: Sink>(sink: &mut K, line: &str, code: u8) -> Status
     requires { code ≢ 4 }
     ensures written { result.code ≡ code → Grows (K.taken sink.old) (K.taken sink.new) line.now }
     ensures code { (result.code ≡ code) ⊎ (result.code ≡ 4) }
-    ensures fault { result.code ≡ 4 → Rose (K.faults sink.old) (K.faults sink.new) }
+    ensures fault { FailsLast (K.faults sink.old) (K.faults sink.new) (K.has_failed sink.new) (result.code ≡ 4) }
     ensures torn { result.code ≡ 4 → Torn (K.taken sink.old) (K.taken sink.new) line.now }
     ensures calm { result.code ≢ 4 → K.faults sink.new ≡ K.faults sink.old }
 {
@@ -78,9 +78,9 @@ pub fn run_plain<S: Source, K: Sink, U: Sut>(
     // In the end nothing is dialled.
     ensures hung { U.dialled sut.old ≡ 0 → U.dialled sut.new ≡ 0 }
 
-    // No fault is told by itself, and no other status is given.
-    ensures read { result.code ≡ 3 → Rose (S.faults source.old) (S.faults source.new) }
-    ensures write { result.code ≡ 4 → Rose (K.faults sink.old) (K.faults sink.new) }
+    // After a failed read or write nothing is read or written any more, and no other status is given.
+    ensures read { FailsLast (S.faults source.old) (S.faults source.new) (S.has_failed source.new) (result.code ≡ 3) }
+    ensures write { FailsLast (K.faults sink.old) (K.faults sink.new) (K.has_failed sink.new) (result.code ≡ 4) }
     ensures all_read { result.code ≢ 3 → S.faults source.new ≡ S.faults source.old }
     ensures all_written { result.code ≢ 4 → K.faults sink.new ≡ K.faults sink.old }
     ensures known { (result.code ≡ 0) ⊎ (result.code ≡ 10) ⊎ (result.code ≡ 3) ⊎ (result.code ≡ 4) ⊎ (result.code ≡ 5) ⊎ (result.code ≡ 6) }

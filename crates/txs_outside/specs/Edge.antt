@@ -4,6 +4,12 @@ use Rattle.std.specs.Prelude.{ℕ, Bool}
 -- a reader as a source
 pub record ReaderState : Type 0 where
   pub at_end : Bool
+  pub has_failed : Bool
+  pub faults : ℕ
+
+-- a writer as a sink
+pub record WriterState : Type 0 where
+  pub has_failed : Bool
   pub faults : ℕ
 
 -- a system behind connections

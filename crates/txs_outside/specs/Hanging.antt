@@ -1,4 +1,4 @@
--- How often a system was hung up on.
+-- How often a system was hung up on, and a count that stops at its type's end.
 use Rattle.std.specs.Prelude.{ℕ, ◌+◌, ◌-◌, ◌^◌, min, Option, None, Some}
 
 -- one more, up to the type's end

@@ -1,6 +1,6 @@
-pub mod Causes
 pub mod Known
 pub mod Hanging
+pub mod Causes
 pub mod Reading
 pub mod Calls
 pub mod Held

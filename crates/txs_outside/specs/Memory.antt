@@ -15,6 +15,7 @@ pub record MemSourceState : Type 0 where
   pub left : List ℕ
   pub given : List ℕ
   pub at_end : Bool
+  pub has_failed : Bool
   pub made : ℕ
   pub fails : List ℕ
   pub faults : ℕ
@@ -22,6 +23,7 @@ pub record MemSourceState : Type 0 where
 -- a sink that fails at the listed calls, of which so many were made
 pub record MemSinkState : Type 0 where
   pub taken : List ℕ
+  pub has_failed : Bool
   pub made : ℕ
   pub fails : List ℕ
   pub faults : ℕ

@@ -1,25 +1,27 @@
-ghost use Rattle.std.specs.Prelude.{◌≡◌, Contains, IsErr, ◌↔◌, ◌≤◌, OnOk};
-ghost use Rattle.txs_outside.specs.Causes.{HasCause, Rose};
+ghost use Rattle.std.specs.Prelude.{◌≡◌, Contains, IsErr, IsTrue, ◌↔◌, ◌≤◌, OnOk, OnErr, true, false};
+ghost use Rattle.txs_outside.specs.Causes.{HasCause};
 ghost use Rattle.txs_outside.specs.Hanging.{more};
 
 use crate::{Failed, Numbers};
 
-/// Counts calls from 1, knows which of them are to fail, and counts the faults.
+/// Counts calls from 1, knows which of them are to fail, counts the faults, and tells whether the last call failed.
 #[derive(Debug, Drop)]
 pub(crate) struct Failing {
     pub calls: u64,
     pub fails: Numbers,
     pub faults: u64,
+    pub has_failed: bool,
 }
 
 impl Failing {
     pub fn new(fails: Numbers) -> Failing
-        ensures { result ≡ record { calls = 0; fails = fails; faults = 0 } }
+        ensures { result ≡ record { calls = 0; fails = fails; faults = 0; has_failed = false } }
     {
         Failing {
             calls: 0,
             fails,
             faults: 0,
+            has_failed: false,
         }
     }
 
@@ -28,10 +30,13 @@ impl Failing {
         ensures answer { IsErr result ↔ Contains self.old.fails self.new.calls }
         ensures calls { self.new.calls ≡ more self.old.calls }
         ensures fails { self.new.fails ≡ self.old.fails }
+        ensures failed { IsTrue self.new.has_failed ↔ IsErr result }
         ensures cause { HasCause self.old.faults self.new.faults (IsErr result) }
+        ensures once { OnErr result (self.new.faults ≡ more self.old.faults) }
         ensures faults { OnOk result (self.new.faults ≡ self.old.faults) }
     {
         self.calls = self.calls.saturating_add(1);
+        self.has_failed = false;
         if self.fails.has(self.calls) {
             return Err(self.fault());
         }
@@ -43,9 +48,11 @@ impl Failing {
         ensures calls { self.new.calls ≡ self.old.calls }
         ensures fails { self.new.fails ≡ self.old.fails }
         ensures later { self.old.faults ≤ self.new.faults }
-        ensures rose { Rose self.old.faults self.new.faults }
+        ensures once { self.new.faults ≡ more self.old.faults }
+        ensures failed { self.new.has_failed ≡ true }
     {
         self.faults = self.faults.saturating_add(1);
+        self.has_failed = true;
         Failed
     }
 }

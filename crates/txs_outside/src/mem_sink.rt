@@ -1,4 +1,4 @@
-ghost use Rattle.std.specs.Prelude.{◌≡◌, [], IfOk};
+ghost use Rattle.std.specs.Prelude.{◌≡◌, [], false, IfOk};
 
 use crate::failing::Failing;
 use crate::{Failed, Numbers, Sink};
@@ -20,6 +20,7 @@ impl Model for MemSink {
 
     ghost view = { λ k. record {
       taken = k.bytes;
+      has_failed = k.failing.has_failed;
       made = k.failing.calls;
       fails = k.failing.fails;
       faults = k.failing.faults;
@@ -30,7 +31,7 @@ impl MemSink {
     /// Reserves room for so many bytes. Its writes are numbered from 1; one that finds no memory
     /// for what it is to take fails too.
     pub fn new(alloc: Global, room: usize, fails: Numbers) -> Result<MemSink, NoMemory>
-        ensures { IfOk result (λ k. k ≡ record { taken = []; made = 0; fails = fails; faults = 0 }) }
+        ensures { IfOk result (λ k. k ≡ record { taken = []; has_failed = false; made = 0; fails = fails; faults = 0 }) }
     {
         let bytes = Bytes::from_vec(Vec::with_capacity(alloc, room)?);
         Ok(MemSink {
@@ -53,6 +54,8 @@ impl Sink for MemSink {
     ghost taken = { λ k. Some k.taken };
 
     ghost faults = { λ k. k.faults };
+
+    ghost has_failed = { λ k. k.has_failed };
 
     fn write(&mut self, bytes: &[u8]) -> Result<usize, Failed> {
         self.failing.call()?;

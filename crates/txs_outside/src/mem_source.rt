@@ -21,6 +21,7 @@ impl Model for MemSource {
       left = s.inner.left;
       given = s.inner.given;
       at_end = s.inner.at_end;
+      has_failed = s.failing.has_failed;
       made = s.failing.calls;
       fails = s.failing.fails;
       faults = s.failing.faults;
@@ -30,7 +31,7 @@ impl Model for MemSource {
 impl MemSource {
     /// Its reads are numbered from 1.
     pub fn new(bytes: Bytes, fails: Numbers) -> MemSource
-        ensures { result ≡ record { left = bytes; given = []; at_end = false; made = 0; fails = fails; faults = 0 } }
+        ensures { result ≡ record { left = bytes; given = []; at_end = false; has_failed = false; made = 0; fails = fails; faults = 0 } }
     {
         MemSource {
             inner: SureSource::new(bytes),
@@ -49,6 +50,8 @@ impl Source for MemSource {
     ghost faults = { λ s. s.faults };
 
     ghost at_end = { λ s. s.at_end };
+
+    ghost has_failed = { λ s. s.has_failed };
 
     fn read(&mut self, buf: &mut [u8]) -> Got {
         if self.failing.call().is_err() {

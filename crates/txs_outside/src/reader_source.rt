@@ -9,6 +9,7 @@ use std::marker::Model;
 pub struct ReaderSource<R> {
     reader: R,
     at_end: bool,
+    has_failed: bool,
     faults: u64,
 }
 
@@ -17,16 +18,17 @@ impl<R> Model for ReaderSource<R> {
 
     ghost Value = { ReaderState };
 
-    ghost view = { λ s. record { at_end = s.at_end; faults = s.faults } };
+    ghost view = { λ s. record { at_end = s.at_end; has_failed = s.has_failed; faults = s.faults } };
 }
 
 impl<R> ReaderSource<R> {
     pub fn new(reader: R) -> ReaderSource<R>
-        ensures { result ≡ record { at_end = false; faults = 0 } }
+        ensures { result ≡ record { at_end = false; has_failed = false; faults = 0 } }
     {
         ReaderSource {
             reader,
             at_end: false,
+            has_failed: false,
             faults: 0,
         }
     }
@@ -43,8 +45,11 @@ impl<R: Read> Source for ReaderSource<R> {
 
     ghost at_end = { λ s. s.at_end };
 
+    ghost has_failed = { λ s. s.has_failed };
+
     fn read(&mut self, buf: &mut [u8]) -> Got {
         self.at_end = false;
+        self.has_failed = false;
         match retrying::read(&mut self.reader, buf) {
             Ok(0) => {
                 self.at_end = true;
@@ -52,6 +57,7 @@ impl<R: Read> Source for ReaderSource<R> {
             }
             Ok(len) => Got::Bytes { len },
             Err(_) => {
+                self.has_failed = true;
                 self.faults = self.faults.saturating_add(1);
                 Got::Failed
             }

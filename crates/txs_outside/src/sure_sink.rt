@@ -11,11 +11,13 @@ impl SureSink {
 }
 
 impl Sink for SureSink {
-    ghost use Rattle.std.specs.Prelude.{None};
+    ghost use Rattle.std.specs.Prelude.{None, false};
 
     ghost taken = { λ _. None };
 
     ghost faults = { λ _. 0 };
+
+    ghost has_failed = { λ _. false };
 
     fn write(&mut self, bytes: &[u8]) -> Result<usize, Failed> {
         Ok(bytes.len())

@@ -43,7 +43,7 @@ impl SureSource {
 }
 
 impl Source for SureSource {
-    ghost use Rattle.std.specs.Prelude.{Some};
+    ghost use Rattle.std.specs.Prelude.{Some, false};
 
     ghost left = { λ s. Some s.left };
 
@@ -52,6 +52,8 @@ impl Source for SureSource {
     ghost faults = { λ _. 0 };
 
     ghost at_end = { λ s. s.at_end };
+
+    ghost has_failed = { λ _. false };
 
     fn read(&mut self, buf: &mut [u8]) -> Got {
         let (_, rest) = self.bytes.as_slice().split_at(self.at);

@@ -1,4 +1,4 @@
-ghost use Rattle.std.specs.Prelude.{◌≡◌, IfOk, ◌≤◌, length};
+ghost use Rattle.std.specs.Prelude.{◌≡◌, false, IfOk, ◌≤◌, length};
 
 use crate::{Failed, Sink, retrying};
 use std::io::Write;
@@ -8,22 +8,27 @@ use std::marker::Model;
 #[derive(Drop)]
 pub struct WriterSink<W> {
     writer: W,
+    has_failed: bool,
     faults: u64,
 }
 
 impl<W> Model for WriterSink<W> {
-    ghost use Rattle.std.specs.Prelude.{ℕ};
+    ghost use Rattle.txs_outside.specs.Edge.{WriterState};
 
-    ghost Value = { ℕ };
+    ghost Value = { WriterState };
 
-    ghost view = { λ k. k.faults };
+    ghost view = { λ k. record { has_failed = k.has_failed; faults = k.faults } };
 }
 
 impl<W> WriterSink<W> {
     pub fn new(writer: W) -> WriterSink<W>
-        ensures { result ≡ 0 }
+        ensures { result ≡ record { has_failed = false; faults = 0 } }
     {
-        WriterSink { writer, faults: 0 }
+        WriterSink {
+            writer,
+            has_failed: false,
+            faults: 0,
+        }
     }
 }
 
@@ -32,12 +37,16 @@ impl<W: Write> Sink for WriterSink<W> {
 
     ghost taken = { λ _. None };
 
-    ghost faults = { λ k. k };
+    ghost faults = { λ k. k.faults };
+
+    ghost has_failed = { λ k. k.has_failed };
 
     fn write(&mut self, bytes: &[u8]) -> Result<usize, Failed> {
+        self.has_failed = false;
         match retrying::write(&mut self.writer, bytes) {
             Ok(count) if count > 0 && retrying::flush(&mut self.writer).is_ok() => Ok(count),
             _ => {
+                self.has_failed = true;
                 self.faults = self.faults.saturating_add(1);
                 Err(Failed)
             }

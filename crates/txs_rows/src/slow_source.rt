@@ -38,6 +38,8 @@ impl Source for SlowSource {
 
     ghost at_end = { λ s. s.at_end };
 
+    ghost has_failed = { λ s. s.has_failed };
+
     fn read(&mut self, buf: &mut [u8]) -> Got {
         let room = self.most.max(1).min(buf.len());
         self.inner.read(&mut buf[..room])

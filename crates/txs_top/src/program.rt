@@ -1,5 +1,6 @@
-ghost use Rattle.std.specs.Prelude.{◌≡◌, ◌⊎◌, ◌≢◌, ◌<◌, ◌≤◌, ◌∷◌, [], ℕ, List, Some, length, map, string_bytes, codes, IfOk};
+ghost use Rattle.std.specs.Prelude.{◌≡◌, ◌⊎◌, ◌≢◌, ◌<◌, ◌≤◌, ◌∷◌, [], ℕ, List, Some, true, length, map, string_bytes, codes, IfOk};
 ghost use Rattle.txs_outside.specs.Causes.{Rose};
+ghost use Rattle.txs_outside.specs.Hanging.{more};
 ghost use Rattle.txs_outside.specs.Known.{Grows, Tells};
 ghost use Rattle.txs_drive.specs.File.{IsFile};
 ghost use Rattle.txs_drive.specs.Served.{Served};
@@ -34,10 +35,10 @@ fn run<F: Files, S: Source, K: Sink, U: Sut>(
     ensures refused_alone { result.code ≡ 2 → (source.new ≡ source.old) × (sut.new ≡ sut.old) }
     ensures read { result.code ≡ 3 →
         Rose (F.faults files.old) (F.faults files.new) × (source.new ≡ source.old) × (sink.new ≡ sink.old) × (sut.new ≡ sut.old)
-        ⊎ Rose (S.faults source.old) (S.faults source.new) × OfFile (F.contents files.old file.now) (λ m. Served m
+        ⊎ (S.faults source.new ≡ more (S.faults source.old)) × (S.has_failed source.new ≡ true) × OfFile (F.contents files.old file.now) (λ m. Served m
         (S.given source.old) (S.given source.new) (S.left source.old) (S.left source.new) (S.at_end source.new) (K.taken sink.old) (K.taken sink.new)
         (U.calls sut.old) (U.calls sut.new) (U.hang_ups sut.old) (U.hang_ups sut.new) (U.faults sut.old) (U.faults sut.new) result.code) }
-    ensures write { result.code ≡ 4 → Rose (K.faults sink.old) (K.faults sink.new) }
+    ensures write { result.code ≡ 4 → (K.faults sink.new ≡ more (K.faults sink.old)) × (K.has_failed sink.new ≡ true) }
     ensures torn { result.code ≡ 4 →
         ((bytes : List ℕ) × Tells (F.contents files.old file.now) bytes × IsNoFile bytes
         × Torn (K.taken sink.old) (K.taken sink.new) (codes "REFUSED Later 0\n") × (source.new ≡ source.old) × (sut.new ≡ sut.old))
@@ -110,16 +111,18 @@ pub fn top<F: Files, S: Source, K: Sink, U: Sut>(
     ensures refused_line { result.code ≡ 2 → Grows (K.taken sink.old) (K.taken sink.new) (codes "REFUSED Later 0\n") }
     ensures refused_alone { result.code ≡ 2 → (source.new ≡ source.old) × (sut.new ≡ sut.old) }
 
-    // Status 3 stands only where the count of the files or of the source rose.
+    // Status 3 stands only where the count of the files rose, or where the source's last read failed and no other read of the
+    // session did, so that nothing was read behind it.
     ensures read { result.code ≡ 3 →
         Rose (F.faults files.old) (F.faults files.new) × (source.new ≡ source.old) × (sink.new ≡ sink.old) × (sut.new ≡ sut.old)
-        ⊎ Rose (S.faults source.old) (S.faults source.new) × Ran (map string_bytes words.now) (F.contents files.old) (λ m. Served m
+        ⊎ (S.faults source.new ≡ more (S.faults source.old)) × (S.has_failed source.new ≡ true) × Ran (map string_bytes words.now) (F.contents files.old) (λ m. Served m
         (S.given source.old) (S.given source.new) (S.left source.old) (S.left source.new) (S.at_end source.new) (K.taken sink.old) (K.taken sink.new)
         (U.calls sut.old) (U.calls sut.new) (U.hang_ups sut.old) (U.hang_ups sut.new) (U.faults sut.old) (U.faults sut.new) result.code) }
 
-    // Status 4 stands only where the sink's count rose. A beginning of the line that was due is taken then, behind the
-    // whole lines of the session, whose calls were made up to there.
-    ensures write { result.code ≡ 4 → Rose (K.faults sink.old) (K.faults sink.new) }
+    // Status 4 stands only where the sink's last write failed and no other write did, so that nothing was written behind
+    // it. A beginning of the line that was due is taken then, behind the whole lines of the session, whose calls were
+    // made up to there.
+    ensures write { result.code ≡ 4 → (K.faults sink.new ≡ more (K.faults sink.old)) × (K.has_failed sink.new ≡ true) }
     ensures torn { result.code ≡ 4 →
         IsNoForm (map string_bytes words.now) × Torn (K.taken sink.old) (K.taken sink.new) (codes "usage: txs run FILE\n")
         ⊎ ((bytes : List ℕ) × Asked (map string_bytes words.now) (F.contents files.old) bytes × IsNoFile bytes

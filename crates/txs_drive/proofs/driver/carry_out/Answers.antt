@@ -1,4 +1,4 @@
-use Rattle.std.proofs.Common.{◌∷◌, [], ◌∙◌, ap, arith, refl, sym}
+use Rattle.std.proofs.Common.{◌∷◌, [], ◌∙◌, ap, refl, sym}
 use Rattle.txs_drive.specs.Ready.{state_of}
 use Rattle.txs_drive.proofs.Calls.{dialled_same}
 use Rattle.txs_drive.proofs.Courses.{went_then, went_line}

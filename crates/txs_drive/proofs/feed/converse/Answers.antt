@@ -81,7 +81,7 @@ pub returns-in_err-read_piece-clause-broke : goal.returns-in_err-read_piece-clau
 returns-in_err-read_piece-clause-broke g c =
     let more = c.in_err-read_piece.ensures.unread in
     if_err _ _ NoMemory c.from_residual.result c.from_residual.ensures.1 (λ y h. h)
-    (broke_read c.args.model.now (state_of c.reads.session) _ _ _ _ _ _ _ _ _ _ _ _ _ _ _ _ c.reads.taken c.reads.pending more.0 c.reads.invariant.talked more.1 more.2 c.reads.invariant.within c.reads.invariant.idle refl)
+    (broke_read c.args.model.now (state_of c.reads.session) _ _ _ _ _ _ _ _ _ _ _ _ _ _ _ _ c.reads.taken c.reads.pending more.0 c.reads.invariant.talked more.2 more.3 c.reads.invariant.within (omega (arith, more.1, c.room_left.ensures.past)) c.reads.invariant.idle refl)
 
 pub returns-in_err-finish-in-End-clause-broke : goal.returns-in_err-finish-in-End-clause-broke
 returns-in_err-finish-in-End-clause-broke g c =

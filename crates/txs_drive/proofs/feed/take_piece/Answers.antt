@@ -1,4 +1,4 @@
-use Rattle.std.proofs.Common.{◌+◌, ◌++◌, ◌∙◌, refl, ◌∷◌, [], ℕ, List, true, false, subst, sym, append-nil, arith, get_or, take, drop}
+use Rattle.std.proofs.Common.{◌+◌, ◌++◌, ◌∙◌, refl, ◌∷◌, [], ℕ, List, true, false, subst, sym, append-nil, get_or, take, drop}
 use Rattle.txs_drive.specs.Ready.{state_of}
 use Rattle.txs_drive.specs.Going.{Took}
 use Rattle.txs_drive.proofs.Feeding.{took_then, took_part, took_more, take_step, take_rest}

@@ -1,12 +1,10 @@
-use Rattle.std.proofs.Common.{◌≡◌, ◌∙◌, ℕ, Bool, ap}
+use Rattle.std.proofs.Common.{◌∙◌, ℕ, Bool, ap}
 use Rattle.txs_drive.specs.Course.{hung_after}
 use Rattle.txs_drive.specs.Served.{last_of}
 use Rattle.txs_drive.specs.Ready.{state_of}
 use Rattle.txs_drive.specs.Going.{code_of}
 use Rattle.txs_drive.proofs.Serving.{served}
-use Rattle.txs_drive.specs.declared.driver.Stop.{Stop}
-use Rattle.txs_drive.specs.declared.driver.Stop.TheVariants.{Sink, NoMemory}
-use Rattle.txs_drive.specs.Stopping.{Broke, ends_in}
+use Rattle.txs_drive.specs.Stopping.{ends_in}
 use Rattle.txs_drive.proofs.Breaking.{cut_by_note, cut_by_want, cut_by_both}
 use Rattle.txs_drive.proofs.plain.run_plain.Goals as goal
 

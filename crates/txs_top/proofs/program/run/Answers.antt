@@ -24,7 +24,8 @@ returns-clause-headline g c some = record {
 
 pub returns-clause-read : goal.returns-clause-read
 returns-clause-read g c three = inr (
-  c.run_plain.ensures.read three,
+  c.run_plain.ensures.read.once three,
+  c.run_plain.ensures.read.last three,
   record {
     bytes = c.in-Ok.bytes;
     holds = c.in-Ok.ensures.bytes;

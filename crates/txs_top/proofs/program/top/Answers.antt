@@ -40,7 +40,7 @@ returns-clause-read g c three =
     let is = both ∙ ap (λ (q : List ℕ). q ∷ string_bytes c.file-item.result ∷ []) word ∙ ap (λ (q : List ℕ). codes "run" ∷ q ∷ []) (sym c.as_str-2.ensures.value) in
     elim (c.run.ensures.read three) [
       | inl a ↦ inl a
-      | inr b ↦ inr (b.0, (c.as_str-2.result.now, is, b.1))
+      | inr b ↦ inr (b.0, b.1, (c.as_str-2.result.now, is, b.2))
     ]
 
 pub returns-clause-limit : goal.returns-clause-limit
