@@ -1,7 +1,6 @@
 pub mod rules
 pub mod typing
 pub mod solver
-pub mod under
 pub mod instances
 pub mod bounded
 pub mod examples

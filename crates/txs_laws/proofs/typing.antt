@@ -1,11 +1,5 @@
 pub mod Facts
 pub mod Sides
-pub mod Numbers
-pub mod Reading
-pub mod Lists
-pub mod Putting
-pub mod Outcomes
-pub mod Runs
 pub mod Defaults
 pub mod Terms
 pub mod Channels

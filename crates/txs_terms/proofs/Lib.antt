@@ -6,3 +6,5 @@ pub mod MoveLaws
 pub mod QuietLaws
 pub mod SetLaws
 pub mod PlainLaws
+pub mod under
+pub mod typing

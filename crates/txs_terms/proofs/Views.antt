@@ -1,8 +1,30 @@
--- Slots of the program's values.
-use Rattle.std.proofs.Common.{◌≡◌, ℕ, zero, suc, ◌-◌, ◌<◌, ◌≤◌, List, [], ◌∷◌, length, get_or, ap, ◌∙◌, arith}
+-- Slots of the program's values, and the view of an expression.
+use Rattle.std.proofs.Common.{◌≡◌, ℕ, zero, suc, ◌-◌, ◌<◌, ◌≤◌, List, [], ◌∷◌, ◌++◌, map, take, ◌+◌, length, get_or, refl, sym, ap, ◌∙◌, arith}
+use Rattle.std.proofs.lemmas.List.{take_more, map-append}
 use Rattle.txs_values.specs.declared.value.Value as rust
 use Rattle.txs_values.specs.View.{value_of, values_of}
-use Rattle.txs_terms.specs.Expr.{val, slot, filled}
+use Rattle.txs_terms.specs.declared.expr.Expr as rust_expr
+use Rattle.txs_terms.specs.declared.expr.Expr.TheOpen.{Expr-F}
+use Rattle.txs_terms.specs.declared.expr.Expr.TheFolds.{fold-roll-Expr}
+use Rattle.txs_terms.specs.declared.expr.Expr.TheVariants as variant
+use Rattle.txs_terms.specs.Expr.{Expr, val, slot, apply, build, filled, put, put_each, put_all, more, Puts}
+use Rattle.txs_terms.specs.View.{expr_of, exprs_of, expr_step, gathered}
+
+pub at_value : (v : rust.Value) → expr_of (variant.Value v) ≡ val (value_of v)
+at_value v = ap expr_of (sym (variant.rolls-Value v)) ∙ fold-roll-Expr Expr expr_step (Expr-F.Value v)
+
+pub at_slot : (i : ℕ) → expr_of (variant.Slot i) ≡ slot i
+at_slot i = ap expr_of (sym (variant.rolls-Slot i)) ∙ fold-roll-Expr Expr expr_step (Expr-F.Slot i)
+
+pub at_call : (f : ℕ) (es : List rust_expr.Expr) → expr_of (variant.Call f es) ≡ apply f (gathered (exprs_of es))
+at_call f es = ap expr_of (sym (variant.rolls-Call f es)) ∙ fold-roll-Expr Expr expr_step (Expr-F.Call f es)
+
+pub at_build : (c : ℕ) (es : List rust_expr.Expr) → expr_of (variant.Build c es) ≡ build c (gathered (exprs_of es))
+at_build c es = ap expr_of (sym (variant.rolls-Build c es)) ∙ fold-roll-Expr Expr expr_step (Expr-F.Build c es)
+
+pub put_gathered : (f : Puts) (es : List Expr) → put_each f (gathered es) ≡ gathered (put_all f es)
+put_gathered f [] = refl
+put_gathered f (e ∷ es) = ap (more (put f e)) (put_gathered f es)
 
 pub filled_at : (vs : List rust.Value) (i : ℕ) (v : rust.Value) → i < length vs → v ≡ get_or vs i v
     → val (value_of v) ≡ filled (values_of vs) i
@@ -16,3 +38,26 @@ filled_beyond (w ∷ vs) zero h = absurd (omega arith)
 filled_beyond (w ∷ vs) (suc i) h =
     let e : suc i - length (w ∷ vs) ≡ i - length vs = omega arith in
     ap slot e ∙ filled_beyond vs i (let k : length vs ≤ i = omega arith in k)
+
+-- a call, and a constructor, whose operands are filled
+pub filled_call : (p : Puts) (e : rust_expr.Expr) (f : ℕ) (es fs : List rust_expr.Expr) → e ≡ variant.Call f es
+    → exprs_of fs ≡ put_all p (exprs_of es) → expr_of (variant.Call f fs) ≡ put p (expr_of e)
+filled_call p e f es fs is h =
+    at_call f fs ∙ (ap (λ l. apply f (gathered l)) h ∙ sym (ap (put p) (ap expr_of is ∙ at_call f es) ∙ ap (apply f) (put_gathered p (exprs_of es))))
+
+pub filled_build : (p : Puts) (e : rust_expr.Expr) (c : ℕ) (es fs : List rust_expr.Expr) → e ≡ variant.Build c es
+    → exprs_of fs ≡ put_all p (exprs_of es) → expr_of (variant.Build c fs) ≡ put p (expr_of e)
+filled_build p e c es fs is h =
+    at_build c fs ∙ (ap (λ l. build c (gathered l)) h ∙ sym (ap (put p) (ap expr_of is ∙ at_build c es) ∙ ap (build c) (put_gathered p (exprs_of es))))
+
+-- one more is filled
+pub map_one_more : {A B : Type 0} (g : A → B) (f : B → B) (xs : List A) (i : ℕ) (ys : List A) (y d : A) → i < length xs
+    → map g ys ≡ map f (map g (take i xs)) → g y ≡ f (g (get_or xs i d)) → map g (ys ++ y ∷ []) ≡ map f (map g (take (i + 1) xs))
+map_one_more g f xs i ys y d h e k =
+    let t = take_more xs i d h in
+    let a = map-append g ys (y ∷ []) in
+    let b = ap (λ l. map f (map g l)) t in
+    let c = ap (map f) (map-append g (take i xs) (get_or xs i d ∷ [])) in
+    let m = map-append f (map g (take i xs)) (g (get_or xs i d) ∷ []) in
+    let joined : map g ys ++ g y ∷ [] ≡ map f (map g (take i xs)) ++ f (g (get_or xs i d)) ∷ [] = cc in
+    a ∙ (joined ∙ sym (b ∙ (c ∙ m)))

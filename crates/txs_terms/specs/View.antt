@@ -2,7 +2,12 @@
 use Rattle.std.specs.Prelude.{List, [], ◌∷◌, map}
 use Rattle.txs_values.specs.View.{values_of, value_of, ty_of}
 use Rattle.txs_terms.specs.declared.expr.Expr as rust_expr
-use Rattle.txs_terms.specs.declared.expr.Expr.TheVariants as expr
+use Rattle.txs_terms.specs.declared.expr.Expr.TheOpen.{Expr-F}
+use Rattle.txs_terms.specs.declared.expr.Expr.TheFolds.{fold-Expr}
+use Rattle.txs_terms.specs.declared.expr.Unary as rust_unary
+use Rattle.txs_terms.specs.declared.expr.Unary.TheVariants as unary
+use Rattle.txs_terms.specs.declared.expr.Binary as rust_binary
+use Rattle.txs_terms.specs.declared.expr.Binary.TheVariants as binary
 use Rattle.txs_terms.specs.declared.offer.Position as rust_position
 use Rattle.txs_terms.specs.declared.offer.Position.TheVariants as position
 use Rattle.txs_terms.specs.declared.offer.Offer as rust_offer
@@ -14,13 +19,56 @@ use Rattle.txs_terms.specs.declared.tree.Tree.TheFolds.{fold-Tree}
 use Rattle.txs_terms.specs.declared.term.Term as rust_term
 use Rattle.txs_terms.specs.declared.term.Top as rust_top
 use Rattle.txs_terms.specs.declared.term.Top.TheVariants as top
-use Rattle.txs_terms.specs.Expr.{Expr, val, slot}
+use Rattle.txs_terms.specs.Expr.{Unary, negate, negation, to_text, from_text, len, is_made_by, select, Binary, plus, minus, times, divide, remainder, concat, differ, less_than, at_most, more_than, at_least, char_at, Expr, val, slot, local, constant, one, two, equal, both, either, choose, apply, build, let_in, Exprs, none, more}
 use Rattle.txs_terms.specs.Action.{Part, Action}
 use Rattle.txs_terms.specs.Term.{Position, give, take, Offer, Term, stop, exits, prefix, step, guard, choice, par, enable, disable, interrupt, hide, call, bind, machine, hit, miss}
 
+abbrev pub unary_of : rust_unary.Unary → Unary
+unary_of unary.Negate = negate
+unary_of unary.Not = negation
+unary_of unary.ToText = to_text
+unary_of (unary.FromText t) = from_text (ty_of t)
+unary_of unary.Length = len
+unary_of (unary.IsMadeBy c) = is_made_by c
+unary_of (unary.Select c i) = select c i
+
+abbrev pub binary_of : rust_binary.Binary → Binary
+binary_of binary.Plus = plus
+binary_of binary.Minus = minus
+binary_of binary.Times = times
+binary_of binary.Divide = divide
+binary_of binary.Remainder = remainder
+binary_of binary.Concat = concat
+binary_of binary.Differ = differ
+binary_of binary.LessThan = less_than
+binary_of binary.AtMost = at_most
+binary_of binary.MoreThan = more_than
+binary_of binary.AtLeast = at_least
+binary_of binary.CharAt = char_at
+
+-- expressions as a call holds them
+abbrev pub gathered : List Expr → Exprs
+gathered [] = none
+gathered (e ∷ es) = more e (gathered es)
+
+-- one level, with each expression below already seen
+abbrev pub expr_step : Expr-F Expr → Expr
+expr_step (Expr-F.Value v) = val (value_of v)
+expr_step (Expr-F.Slot i) = slot i
+expr_step (Expr-F.Local i) = local i
+expr_step (Expr-F.Constant k) = constant k
+expr_step (Expr-F.One o a) = one (unary_of o) a
+expr_step (Expr-F.Two o a b) = two (binary_of o) a b
+expr_step (Expr-F.Equal a b) = equal a b
+expr_step (Expr-F.And a b) = both a b
+expr_step (Expr-F.Or a b) = either a b
+expr_step (Expr-F.If c a b) = choose c a b
+expr_step (Expr-F.Call f es) = apply f (gathered es)
+expr_step (Expr-F.Build c es) = build c (gathered es)
+expr_step (Expr-F.Let x a b) = let_in x a b
+
 abbrev pub expr_of : rust_expr.Expr → Expr
-expr_of (expr.Value v) = val (value_of v)
-expr_of (expr.Slot i) = slot i
+expr_of = fold-Expr Expr expr_step
 
 abbrev pub exprs_of : List rust_expr.Expr → List Expr
 exprs_of es = map expr_of es

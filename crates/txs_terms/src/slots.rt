@@ -12,6 +12,19 @@ use sqlite_items::{Boxed, Items};
 use std::alloc::Global;
 use txs_values::{NoMemory, Value, Values, copy_value};
 
+#[cycle(fill_all)]
+fn fill_boxed(
+    alloc: Global,
+    expr: &Boxed<Expr>,
+    values: &[Value],
+) -> Result<Boxed<Expr>, NoMemory>
+    ensures { IfOk result (λ e. expr_of e
+        ≡ put (filled (values_of values.now)) (expr_of expr.now)) }
+{
+    Ok(Boxed::new(alloc, fill_expr(alloc, expr.get(), values)?)?)
+}
+
+#[cycle(fill_all)]
 fn fill_expr(alloc: Global, expr: &Expr, values: &[Value]) -> Result<Expr, NoMemory>
     ensures { IfOk result (λ e. expr_of e
         ≡ put (filled (values_of values.now)) (expr_of expr.now)) }
@@ -19,6 +32,41 @@ fn fill_expr(alloc: Global, expr: &Expr, values: &[Value]) -> Result<Expr, NoMem
     match expr {
         Expr::Value(value) => Ok(Expr::Value(copy_value(alloc, value)?)),
         Expr::Slot(slot) => fill_slot(alloc, *slot, values),
+        Expr::Local(local) => Ok(Expr::Local(*local)),
+        Expr::Constant(constant) => Ok(Expr::Constant(*constant)),
+        Expr::One(operator, a) => Ok(Expr::One(*operator, fill_boxed(alloc, a, values)?)),
+        Expr::Two(operator, a, b) => {
+            let a = fill_boxed(alloc, a, values)?;
+            Ok(Expr::Two(*operator, a, fill_boxed(alloc, b, values)?))
+        }
+        Expr::Equal(a, b) => {
+            let a = fill_boxed(alloc, a, values)?;
+            Ok(Expr::Equal(a, fill_boxed(alloc, b, values)?))
+        }
+        Expr::And(a, b) => {
+            let a = fill_boxed(alloc, a, values)?;
+            Ok(Expr::And(a, fill_boxed(alloc, b, values)?))
+        }
+        Expr::Or(a, b) => {
+            let a = fill_boxed(alloc, a, values)?;
+            Ok(Expr::Or(a, fill_boxed(alloc, b, values)?))
+        }
+        Expr::If(c, a, b) => {
+            let c = fill_boxed(alloc, c, values)?;
+            let a = fill_boxed(alloc, a, values)?;
+            Ok(Expr::If(c, a, fill_boxed(alloc, b, values)?))
+        }
+        Expr::Call(function, args) => {
+            Ok(Expr::Call(*function, fill_exprs(alloc, args.as_slice(), values)?))
+        }
+        Expr::Build(constructor, fields) => {
+            Ok(Expr::Build(*constructor, fill_exprs(alloc, fields.as_slice(), values)?))
+        }
+        Expr::Let(name, a, b) => {
+            let name = name.copy(alloc)?;
+            let a = fill_boxed(alloc, a, values)?;
+            Ok(Expr::Let(name, a, fill_boxed(alloc, b, values)?))
+        }
     }
 }
 
@@ -33,6 +81,7 @@ fn fill_slot(alloc: Global, slot: u32, values: &[Value]) -> Result<Expr, NoMemor
     }
 }
 
+#[cycle(fill_all)]
 fn fill_exprs(alloc: Global, exprs: &[Expr], values: &[Value]) -> Result<Exprs, NoMemory>
     ensures { IfOk result (λ es. exprs_of es
         ≡ put_all (filled (values_of values.now)) (exprs_of exprs.now)) }

@@ -6,7 +6,7 @@ use Rattle.txs_terms.specs.Rules.{visible}
 use Rattle.txs_terms.specs.Typed.{AllBelow}
 use Rattle.txs_laws.proofs.rules.Places.{Within, typed_on}
 use Rattle.txs_laws.proofs.rules.Channels.{has_self, within_cons}
-use Rattle.txs_laws.proofs.typing.Lists.{have_joined}
+use Rattle.txs_terms.proofs.typing.Lists.{have_joined}
 
 -- ---- kept channels
 

@@ -5,7 +5,7 @@ use Rattle.std.proofs.lemmas.Bool.{and_from}
 use Rattle.txs_values.specs.Value.{Ty, whole, truth, string, named, Value, num, bool, text, cons, packed, Table, TypeDef, Constructor, Field, place_of, place_from, fits, has_type, has_fields, field_types, HasType}
 use Rattle.txs_values.specs.Default.{all_defaults, first_made, ranked, next_round, rounds, default_if, or_zero, default_of}
 use Rattle.txs_terms.specs.Typed.{IsType, IsTable}
-use Rattle.txs_laws.proofs.typing.Numbers.{place_at, among_these, StandsAt, stands_first, stands_next, fields_same}
+use Rattle.txs_terms.proofs.typing.Numbers.{place_at, among_these, StandsAt, stands_first, stands_next, fields_same}
 
 zero_fits : fits (pos 0) ≡ true
 unfolding fits

@@ -9,12 +9,12 @@ use Rattle.txs_terms.specs.Term.{put_term}
 use Rattle.txs_terms.specs.Typed.{Signatures, Of, val_of, slot_of, AreTyped, AreGuards}
 use Rattle.txs_terms.specs.Menu.{Item, fix_by, or_else, fix_right, fix_equal, fix_of, next_fix, only, put_in, is_loose, unable, fixed, fix_value, fix_at, less, fix_all, unfixed, position, closed_up, with_slots, loose_slots}
 use Rattle.txs_laws.specs.Items.{AreItemGuards}
-use Rattle.txs_laws.proofs.typing.Lists.{same_some, member_front, member_past, member_before}
-use Rattle.txs_laws.proofs.typing.Putting.{Suits, put_typed}
+use Rattle.txs_terms.proofs.typing.Lists.{same_some, member_front, member_past, member_before}
+use Rattle.txs_terms.proofs.typing.Putting.{Suits, put_typed}
 use Rattle.txs_laws.proofs.rules.Put.{then_put, put_put, put_put_all, put_put_term, put_slots_all, put_slots_term}
 use Rattle.txs_laws.proofs.typing.Terms.{Carries, put_guards}
 use Rattle.txs_laws.proofs.typing.Slots.{Points, points-length, Renames, renamed_slots, without_slot}
-use Rattle.txs_laws.proofs.typing.Runs.{run_well, EndsWell}
+use Rattle.txs_terms.proofs.typing.Runs.{run_well, EndsWell}
 
 -- ---- loose slots
 

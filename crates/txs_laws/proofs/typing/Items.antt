@@ -11,9 +11,9 @@ use Rattle.txs_terms.specs.Typed.{Signatures, AreTyped, AllBelow, AreScope, OfTe
 use Rattle.txs_terms.specs.Menu.{Kind, on, within, ending, Item, Verdict, holds, fails, faults, Walk, faulted, walked, wide, path_limit, walk_limit, channel_limit, then_walk, too_many, capped, where_holds, where_some, all_values, bound_values, places, width, par_items, pass, disabled, interrupted, back_to, closed_up, fix_all, Fixed, unable, fixed, with_slots, strip, shown_kind, Hidden, bad_item, left_with, strip_by, strip_fixed, loose_slots, hide_kind, and_hidden, hide_all, hidden_walk, body_walk, Walks, prefix_level, step_level, move_level, each_move, state_walk, machine_walk, level, walk, judge, without_slots, all_fixes}
 use Rattle.txs_laws.proofs.typing.Sides.{sides_map, Sides}
 use Rattle.txs_laws.specs.Items.{AreItemGuards, IsItem, AreItems, ItemsAreTyped}
-use Rattle.txs_laws.proofs.typing.Lists.{same_some}
+use Rattle.txs_terms.proofs.typing.Lists.{same_some}
 use Rattle.txs_laws.proofs.rules.Put.{then_put, put_put_term}
-use Rattle.txs_laws.proofs.typing.Runs.{values_typed, bound_typed}
+use Rattle.txs_terms.proofs.typing.Runs.{values_typed, bound_typed}
 use Rattle.txs_laws.proofs.typing.Terms.{Carries, carries_here, put_term_typed, fill_typed, instance_typed, types_front}
 use Rattle.txs_laws.proofs.typing.Channels.{within_kept, visible_below}
 use Rattle.txs_laws.proofs.typing.Slots.{Points, points_places, width_types, no_guards, plain_guards}

@@ -1,6 +1,6 @@
 -- The facts of typing, each proved.
 use Rattle.txs_laws.proofs.typing.Facts.{Facts}
-use Rattle.txs_laws.proofs.typing.Runs
+use Rattle.txs_terms.proofs.typing.Runs
 use Rattle.txs_laws.proofs.typing.Defaults
 use Rattle.txs_laws.proofs.typing.Terms
 use Rattle.txs_laws.proofs.typing.Items

@@ -8,8 +8,8 @@ use Rattle.txs_terms.specs.Action.{Channels, has, Scope, types_on, types_over, a
 use Rattle.txs_terms.specs.Typed.{Signatures, Of, Ofs, val_of, slot_of, local_of, constant_of, one_of, two_of, equal_of, both_of, either_of, choose_of, apply_of, build_of, let_of, none_of, more_of', AreGuards}
 use Rattle.txs_terms.specs.Menu.{width, start, places}
 use Rattle.txs_laws.specs.Items.{AreItemGuards}
-use Rattle.txs_laws.proofs.typing.Lists.{joined_again, no_member, member_front, member_past}
-use Rattle.txs_laws.proofs.typing.Putting.{put_typed, Suits}
+use Rattle.txs_terms.proofs.typing.Lists.{joined_again, no_member, member_front, member_past}
+use Rattle.txs_terms.proofs.typing.Putting.{put_typed, Suits}
 use Rattle.txs_laws.proofs.typing.Terms.{Carries}
 use Rattle.txs_laws.proofs.rules.Places.{Within}
 

@@ -9,9 +9,9 @@ use Rattle.txs_terms.specs.Rules.{Model, AllGive, AllBind, Step, offers, steps, 
 use Rattle.txs_terms.specs.Typed.{Signatures, AreTyped, OfEach, OfBindings, FitOffers, AllBelow, OfTerm, IsTypedModel}
 use Rattle.txs_laws.proofs.typing.Sides.{sides_map, some_left, some_right, some_whole}
 use Rattle.txs_laws.specs.Items.{StaysWithin, StepsAreTyped}
-use Rattle.txs_laws.proofs.typing.Lists.{same_some, have_joined}
-use Rattle.txs_laws.proofs.typing.Putting.{put_typed, filled_all}
-use Rattle.txs_laws.proofs.typing.Runs.{run_typed}
+use Rattle.txs_terms.proofs.typing.Lists.{same_some, have_joined}
+use Rattle.txs_terms.proofs.typing.Putting.{put_typed, filled_all}
+use Rattle.txs_terms.proofs.typing.Runs.{run_typed}
 use Rattle.txs_laws.proofs.typing.Terms.{fill_typed, instance_typed}
 use Rattle.txs_laws.proofs.rules.Places.{Within, channels_part}
 use Rattle.txs_laws.proofs.rules.Channels.{within_order}

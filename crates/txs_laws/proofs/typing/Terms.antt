@@ -9,8 +9,8 @@ use Rattle.txs_terms.specs.Typed.{Signatures, OfEach, AreGuards, FitPositions, F
 use Rattle.txs_laws.proofs.typing.Channels.{union_below}
 use Rattle.txs_laws.proofs.rules.Channels.{ascending_order}
 use Rattle.txs_laws.proofs.typing.Sides.{sides_map}
-use Rattle.txs_laws.proofs.typing.Lists.{joined_again, joined_none}
-use Rattle.txs_laws.proofs.typing.Putting.{Suits, put_typed, filled_suits}
+use Rattle.txs_terms.proofs.typing.Lists.{joined_again, joined_none}
+use Rattle.txs_terms.proofs.typing.Putting.{Suits, put_typed, filled_suits}
 
 module _ (table : Table) (signatures : Signatures) where
   -- what is put for a slot has the slot's type, with any slots behind

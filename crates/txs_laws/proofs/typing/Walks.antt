@@ -12,7 +12,7 @@ use Rattle.txs_terms.specs.Menu.{Kind, on, within, ending, Item, with_slots, gat
 use Rattle.txs_laws.proofs.rules.Parallel.{same_values-true}
 use Rattle.txs_laws.proofs.typing.Sides.{sides_map, some_left, some_right, some_whole, Sides}
 use Rattle.txs_laws.specs.Items.{AreItemGuards, IsItem, AreItems}
-use Rattle.txs_laws.proofs.typing.Runs.{run_well, EndsWell}
+use Rattle.txs_terms.proofs.typing.Runs.{run_well, EndsWell}
 use Rattle.txs_laws.proofs.typing.Terms.{Carries, carries_more, carries_here, put_term_typed, fill_typed}
 use Rattle.txs_laws.proofs.rules.Places.{Within}
 use Rattle.txs_laws.proofs.rules.Channels.{within_left, within_right, within_order}

@@ -6,11 +6,10 @@ use Rattle.txs_terms.specs.Expr.{Expr, Exprs, put, filled, with_local}
 use Rattle.txs_terms.specs.Eval.{Defs, wrong, long, Run, got, bad, Runs, gots, bads, Eval, Outcome, fine, broken, sized, unary, binary, after, then_run, then_runs, with_first, cons_run, each, if_true, body_run, node, run, node_limit, height_limit}
 use Rattle.txs_terms.specs.Typed.{Signatures, Of, Ofs, val_of, slot_of, local_of, constant_of, one_of, two_of, equal_of, both_of, either_of, choose_of, apply_of, build_of, let_of, none_of, more_of', AreTyped, OfEach, OfBindings}
 use Rattle.txs_terms.specs.Menu.{all_values, bound_values, with_value, then_bound, with_front}
-use Rattle.txs_laws.specs.Items.{RunsAreTyped}
-use Rattle.txs_laws.proofs.typing.Lists.{no_member, same_some, have_joined}
-use Rattle.txs_laws.proofs.typing.Numbers.{fields_same}
-use Rattle.txs_laws.proofs.typing.Putting.{put_typed, filled_all, local_typed}
-use Rattle.txs_laws.proofs.typing.Outcomes.{IsRight, IsFine, packed_typed, sized_fine, unary_fine, binary_fine}
+use Rattle.txs_terms.proofs.typing.Lists.{no_member, same_some, have_joined}
+use Rattle.txs_terms.proofs.typing.Numbers.{fields_same}
+use Rattle.txs_terms.proofs.typing.Putting.{put_typed, filled_all, local_typed}
+use Rattle.txs_terms.proofs.typing.Outcomes.{IsRight, IsFine, packed_typed, sized_fine, unary_fine, binary_fine}
 
 module _ (table : Table) where
   abbrev pub EndsWell : Ty → Run → Type 0
@@ -117,7 +116,7 @@ module _ (defs : Defs) (signatures : Signatures) (typed : AreTyped defs signatur
       → (v : Value) (m : ℕ) → run defs left e n ≡ got v m → HasType defs.table v t
   run_typed e t left n h v m q = subst (EndsWell defs.table t) q (run_well left e n t h)
 
-  run_right : (e : Expr) (t : Ty) (left n : ℕ) → Of defs.table signatures [] [] e t → run defs left e n ≢ bad wrong
+  pub run_right : (e : Expr) (t : Ty) (left n : ℕ) → Of defs.table signatures [] [] e t → run defs left e n ≢ bad wrong
   run_right e t left n h q = subst (EndsWell defs.table t) q (run_well left e n t h)
 
   -- ---- several values
@@ -158,6 +157,3 @@ module _ (defs : Defs) (signatures : Signatures) (typed : AreTyped defs signatur
 
   pub bound_typed : (es : List Expr) (ts : List Ty) → OfBindings defs.table signatures [] es ts → (vs : List Value) → bound_values defs [] es ≡ Some vs → HaveTypes defs.table vs ts
   bound_typed es ts h = bound_from [] [] es ts tt h
-
-pub runs_are_typed : RunsAreTyped
-runs_are_typed defs signatures e t left n typed h = (run_right defs signatures typed e t left n h, run_typed defs signatures typed e t left n h)

@@ -4,10 +4,9 @@ use Rattle.txs_values.specs.Value.{Value, cons, packed}
 use Rattle.txs_terms.specs.Expr.{Expr, val, slot, local, constant, one, two, equal, both, either, choose, apply, build, let_in, Exprs, none, more, put, with_local, filled}
 use Rattle.txs_terms.specs.Eval.{Defs, Eval, Run, bad, long, Runs, node_limit, then_run, then_runs, cons_run, each, if_true, body_run, node, run, unary, binary, after, sized}
 use Rattle.txs_terms.specs.Under.{Environment, Under, looked_up, each_under, operands, parameters, node_under, run_under}
-use Rattle.txs_laws.specs.Filling.{FilledIsUnder}
-use Rattle.txs_laws.proofs.under.Seen.{local_under, seen, each_seen, seen_filled, seen_bare, local_seen}
+use Rattle.txs_terms.proofs.under.Seen.{local_under, seen, each_seen, seen_filled, seen_bare, local_seen}
 
-abbrev environment : List Value → List Value → Environment
+abbrev pub environment : List Value → List Value → Environment
 environment vs ws = record { slots = vs; locals = ws }
 
 then_alike : (r s : Run) (f g : Value → ℕ → Run) → r ≡ s → ((v : Value) (m : ℕ) → f v m ≡ g v m) → then_run r f ≡ then_run s g
@@ -72,5 +71,6 @@ seen_is defs zero vs ws e n = refl
 seen_is defs (suc left) vs ws e n =
     ap (λ r. cond (ltb n node_limit) r (bad long)) (node_is defs (run defs left) (run_under defs left) (seen_is defs left) vs ws e (suc n))
 
-pub filled_is_under : FilledIsUnder
+pub filled_is_under : (defs : Defs) (vs : List Value) (e : Expr) (left n : ℕ)
+    → run defs left (put (filled vs) e) n ≡ run_under defs left (environment vs []) e n
 filled_is_under defs vs e left n = ap (λ x. run defs left x n) (sym (seen_filled vs e)) ∙ seen_is defs left vs [] e n

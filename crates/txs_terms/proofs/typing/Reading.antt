@@ -5,7 +5,7 @@ use Rattle.std.proofs.lemmas.Bool.{and_from}
 use Rattle.std.specs.Prelude.{bytes_eq, nat_le}
 use Rattle.txs_values.specs.Value.{Ty, whole, truth, string, named, Value, num, Values, no_value, Field, Constructor, TypeDef, Table, place_of, place_from, field_types, fits, fields_in, has_type, has_fields, HasType, size, value_size_limit, value_height_limit}
 use Rattle.txs_values.specs.Spelling.{Front, then_front, Made, made_in, made_from, count_of, Reader, whole_front, number_front, with_truth, truth_named, arguments_front, symbol_front, past_blanks, fields_front, with_made, level_front, value_front, name_front, text_front, last_value, alone, read_text}
-use Rattle.txs_laws.proofs.typing.Numbers.{place_at, among_these, StandsAt, stands_first, stands_next, fields_same}
+use Rattle.txs_terms.proofs.typing.Numbers.{place_at, among_these, StandsAt, stands_first, stands_next, fields_same}
 
 -- ---- a constructor by its name
 

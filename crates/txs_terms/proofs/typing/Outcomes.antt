@@ -7,8 +7,8 @@ use Rattle.txs_values.specs.Spelling.{read_text}
 use Rattle.txs_terms.specs.Expr.{Unary, Binary, divide, remainder, concat, differ, char_at}
 use Rattle.txs_terms.specs.Eval.{Fault, division, range, selector, form, high, long, big, wrong, Outcome, fine, broken, in_range, sized, selected, spelled, text_to, unary, binary, whole_binary, divided, char_of, char_from}
 use Rattle.txs_terms.specs.Typed.{UnaryOf, negate_of, negation_of, to_text_of, from_text_of, len_of, made_by_of, select_of, BinaryOf, plus_of, minus_of, times_of, divide_of, remainder_of, concat_of, differ_of, less_of, at_most_of, more_of, at_least_of, char_of as char_at_of}
-use Rattle.txs_laws.proofs.typing.Numbers.{place_at, fields_same}
-use Rattle.txs_laws.proofs.typing.Reading.{IfTyped, read_typed}
+use Rattle.txs_terms.proofs.typing.Numbers.{place_at, fields_same}
+use Rattle.txs_terms.proofs.typing.Reading.{IfTyped, read_typed}
 
 -- a fault that a well typed expression may have
 abbrev pub IsRight : Fault → Type 0

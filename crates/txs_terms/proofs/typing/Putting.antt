@@ -4,7 +4,7 @@ use Rattle.std.proofs.Common.{◌≡◌, ℕ, zero, suc, List, [], ◌∷◌, �
 use Rattle.txs_values.specs.Value.{Ty, Value, Table, HasType, HaveTypes}
 use Rattle.txs_terms.specs.Expr.{Expr, Exprs, Puts, put, put_each, filled, local_at, with_local, each_with_local}
 use Rattle.txs_terms.specs.Typed.{Signatures, Of, Ofs, val_of, slot_of, local_of, constant_of, one_of, two_of, equal_of, both_of, either_of, choose_of, apply_of, build_of, let_of, none_of, more_of'}
-use Rattle.txs_laws.proofs.typing.Lists.{same_some, no_member}
+use Rattle.txs_terms.proofs.typing.Lists.{same_some, no_member}
 
 module _ (table : Table) (signatures : Signatures) where
   -- what is put for a slot has the slot's type

@@ -1,0 +1,9 @@
+use Rattle.std.proofs.Common.{◌≡◌, take}
+use Rattle.txs_values.specs.View.{values_of}
+use Rattle.txs_terms.specs.Expr.{put_all, filled}
+use Rattle.txs_terms.specs.View.{exprs_of}
+use Rattle.txs_terms.proofs.slots.+fill_all.Given as goal
+
+-- what was filled so far
+abbrev pub invariant-fill_exprs-loop-expr : goal.invariant-fill_exprs-loop-expr
+invariant-fill_exprs-loop-expr l = exprs_of l.filled ≡ put_all (filled (values_of l.values)) (exprs_of (take l.expr-index l.exprs))

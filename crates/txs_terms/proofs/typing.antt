@@ -1,0 +1,6 @@
+pub mod Numbers
+pub mod Reading
+pub mod Lists
+pub mod Putting
+pub mod Outcomes
+pub mod Runs
