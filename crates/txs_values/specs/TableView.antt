@@ -1,0 +1,22 @@
+-- The table that the program's definitions of types stand for.
+use Rattle.std.specs.Prelude.{ℕ, List, map, Option, Some, None}
+use Rattle.txs_values.specs.View.{ty_of}
+use Rattle.txs_values.specs.Value.{Field, Constructor, TypeDef, Table, Place}
+use Rattle.txs_values.specs.declared.table.FieldDef as rust_field
+use Rattle.txs_values.specs.declared.table.ConsDef as rust_cons
+use Rattle.txs_values.specs.declared.table.TypeDef as rust_type
+
+abbrev pub field_of : rust_field.FieldDef → Field
+field_of f = record { name = f.name; ty = ty_of f.ty }
+
+abbrev pub cons_of : rust_cons.ConsDef → Constructor
+cons_of c = record { name = c.name; fields = map field_of c.fields }
+
+abbrev pub conses_of : List rust_cons.ConsDef → List Constructor
+conses_of cs = map cons_of cs
+
+abbrev pub type_of : rust_type.TypeDef → TypeDef
+type_of t = record { name = t.name; constructors = conses_of t.cons }
+
+abbrev pub table_of : List rust_type.TypeDef → Table
+table_of ts = map type_of ts
