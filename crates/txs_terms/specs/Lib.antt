@@ -6,6 +6,7 @@ pub mod Term
 pub mod Rules
 pub mod After
 pub mod Typed
+pub mod Defs
 pub mod Menu
 pub mod Close
 pub mod Sets

@@ -1,6 +1,7 @@
 -- The expressions, actions and terms that the program's types stand for.
 use Rattle.std.specs.Prelude.{List, [], ◌∷◌, map}
 use Rattle.txs_values.specs.View.{values_of, value_of, ty_of}
+use Rattle.txs_values.specs.Value.{Table}
 use Rattle.txs_terms.specs.declared.expr.Expr as rust_expr
 use Rattle.txs_terms.specs.declared.expr.Expr.TheOpen.{Expr-F}
 use Rattle.txs_terms.specs.declared.expr.Expr.TheFolds.{fold-Expr}
@@ -19,6 +20,9 @@ use Rattle.txs_terms.specs.declared.tree.Tree.TheFolds.{fold-Tree}
 use Rattle.txs_terms.specs.declared.term.Term as rust_term
 use Rattle.txs_terms.specs.declared.term.Top as rust_top
 use Rattle.txs_terms.specs.declared.term.Top.TheVariants as top
+use Rattle.txs_terms.specs.declared.defs.FunctionDef as rust_function
+use Rattle.txs_terms.specs.declared.defs.ConstantDef as rust_constant
+use Rattle.txs_terms.specs.Defs.{Function, Constant, Definitions}
 use Rattle.txs_terms.specs.Expr.{Unary, negate, negation, to_text, from_text, len, is_made_by, select, Binary, plus, minus, times, divide, remainder, concat, differ, less_than, at_most, more_than, at_least, char_at, Expr, val, slot, local, constant, one, two, equal, both, either, choose, apply, build, let_in, Exprs, none, more}
 use Rattle.txs_terms.specs.Action.{Part, Action}
 use Rattle.txs_terms.specs.Term.{Position, give, take, Offer, Term, stop, exits, prefix, step, guard, choice, par, enable, disable, interrupt, hide, call, bind, machine, hit, miss}
@@ -72,6 +76,19 @@ expr_of = fold-Expr Expr expr_step
 
 abbrev pub exprs_of : List rust_expr.Expr → List Expr
 exprs_of es = map expr_of es
+
+abbrev pub function_of : rust_function.FunctionDef → Function
+function_of f = record { name = f.name; takes = map ty_of f.takes; gives = ty_of f.gives; body = expr_of f.body }
+
+abbrev pub constant_of : rust_constant.ConstantDef → Constant
+constant_of k = record { name = k.name; ty = ty_of k.ty; body = expr_of k.body }
+
+-- what the program holds of a file's definitions
+abbrev pub Held : Type 0
+Held = Table × List rust_function.FunctionDef × List rust_constant.ConstantDef
+
+abbrev pub definitions_of : Held → Definitions
+definitions_of h = record { table = h.0; functions = map function_of h.1; constants = map constant_of h.2 }
 
 abbrev pub position_of : rust_position.Position → Position
 position_of (position.Give e) = give (expr_of e)

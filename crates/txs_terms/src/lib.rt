@@ -3,6 +3,7 @@
 
 mod action;
 mod after;
+mod defs;
 mod expr;
 mod offer;
 mod slots;
@@ -11,6 +12,7 @@ mod tree;
 
 pub use action::{Action, Channels, Part};
 pub use after::{after_action, after_quiescence, first};
+pub use defs::{ConstantDef, Defs, DefsRef, FunctionDef};
 pub use expr::{Binary, Expr, Exprs, Unary, copy_expr, copy_exprs};
 pub use offer::{Offer, Offers, Position, Positions, copy_offers};
 pub use slots::fill;
