@@ -1,0 +1,67 @@
+-- What a result of the program says of an evaluation.
+use Rattle.std.specs.Prelude.{◌≡◌, ℕ, List, [], Result, Ok, Err}
+use Rattle.txs_values.specs.declared.value.Value as rust
+use Rattle.txs_values.specs.Value.{Ty, Value, HaveTypes}
+use Rattle.txs_values.specs.View.{value_of, values_of}
+use Rattle.txs_terms.specs.Expr.{Expr}
+use Rattle.txs_terms.specs.Typed.{Of}
+use Rattle.txs_terms.specs.Under.{Environment}
+use Rattle.txs_terms.specs.Defs.{Definitions, signatures_of}
+use Rattle.txs_terms.specs.Eval.{Fault, division, range, selector, form, high, long, big, wrong, Outcome, fine, broken, Run, got, bad, Runs, gots, bads}
+use Rattle.txs_eval.specs.declared.fault.EvalFault.{EvalFault}
+use Rattle.txs_eval.specs.declared.fault.EvalFault.TheVariants as fault
+use Rattle.txs_eval.specs.declared.fault.Stop.{Stop}
+use Rattle.txs_eval.specs.declared.fault.Stop.TheVariants as stop
+
+-- an evaluation that ends so is answered by this; want of memory may be answered to any
+abbrev pub Answers : Run → Result rust.Value EvalFault → Type 0
+Answers (got v n) (Ok x) = value_of x ≡ v
+Answers (got v n) (Err e) = e ≡ fault.NoMemory
+Answers (bad f) (Ok x) = ⊥
+Answers (bad f) (Err fault.NoMemory) = Unit {0}
+Answers (bad division) (Err e) = e ≡ fault.Division
+Answers (bad range) (Err e) = e ≡ fault.Range
+Answers (bad selector) (Err e) = e ≡ fault.Selector
+Answers (bad form) (Err e) = e ≡ fault.Form
+Answers (bad high) (Err e) = e ≡ fault.High
+Answers (bad long) (Err e) = e ≡ fault.Long
+Answers (bad big) (Err e) = e ≡ fault.Size
+Answers (bad wrong) (Err e) = ⊥
+
+-- the expression has the type, where its variables have the types of these values
+pub record IsTyped (d : Definitions) (values : List Value) (e : Expr) (t : Ty) : Type 0 where
+  pub types : List Ty
+  pub have : HaveTypes d.table values types
+  pub typed : Of d.table (signatures_of d) types [] e t
+
+-- ---- within the crate
+
+-- it stopped by this fault, or for want of memory
+abbrev pub Stopped : {A : Type 0} → (Fault → A) → Stop → A → Type 0
+Stopped bad stop.Division o = o ≡ bad division
+Stopped bad stop.Range o = o ≡ bad range
+Stopped bad stop.Selector o = o ≡ bad selector
+Stopped bad stop.Form o = o ≡ bad form
+Stopped bad stop.High o = o ≡ bad high
+Stopped bad stop.Long o = o ≡ bad long
+Stopped bad stop.Size o = o ≡ bad big
+Stopped bad stop.Wrong o = o ≡ bad wrong
+Stopped bad stop.NoMemory o = Unit {0}
+
+-- the outcome of an operator
+abbrev pub Comes : Result rust.Value Stop → Outcome → Type 0
+Comes (Ok x) o = o ≡ fine (value_of x)
+Comes (Err e) o = Stopped broken e o
+
+-- the end of an evaluation, with the nodes entered so far
+abbrev pub Ends : Result (rust.Value × ℕ) Stop → Run → Type 0
+Ends (Ok p) r = r ≡ got (value_of p.0) p.1
+Ends (Err e) r = Stopped bad e r
+
+abbrev pub EndEach : Result (List rust.Value × ℕ) Stop → Runs → Type 0
+EndEach (Ok p) r = r ≡ gots (values_of p.0) p.1
+EndEach (Err e) r = Stopped bads e r
+
+-- the values of the slots and of the locals around an expression
+abbrev pub around : List rust.Value → List rust.Value → Environment
+around slots locals = record { slots = values_of slots; locals = values_of locals }

@@ -1,0 +1,87 @@
+ghost use Rattle.std.specs.Prelude.{◌≡◌, slice_get};
+ghost use Rattle.txs_values.specs.View.{value_of, values_of, ty_of};
+ghost use Rattle.txs_terms.specs.Eval as spec;
+ghost use Rattle.txs_terms.specs.Expr.{to_text};
+ghost use Rattle.txs_terms.specs.View.{unary_of, binary_of};
+ghost use Rattle.txs_eval.specs.Answer.{Comes};
+
+use crate::equality::same;
+use crate::fault::Stop;
+use crate::numbers::{negated, on_numbers};
+use crate::texts::{char_at, on_texts, sized, text_length};
+use std::alloc::Global;
+use txs_terms::{Binary, Unary};
+use txs_values::{ReadValueFault, Text, Ty, TypeTable, Value, copy_value, read_value, text_of};
+
+fn written(alloc: Global, table: &TypeTable, value: &Value) -> Result<Value, Stop>
+    ensures { Comes result (spec.unary table.now to_text (value_of value.now)) }
+{
+    match value {
+        Value::Text(text) => sized(Value::Text(text.copy(alloc)?)),
+        _ => sized(Value::Text(text_of(alloc, table, value)?)),
+    }
+}
+
+fn read(alloc: Global, table: &TypeTable, ty: Ty, text: &Text) -> Result<Value, Stop>
+    ensures { Comes result (spec.text_to table.now (ty_of ty) text.now) }
+{
+    if ty == Ty::Text {
+        return Ok(Value::Text(text.copy(alloc)?));
+    }
+    match read_value(alloc, table, ty, text.as_bytes()) {
+        Ok(value) => Ok(value),
+        Err(ReadValueFault::NoMemory) => Err(Stop::NoMemory),
+        Err(_) => Err(Stop::Form),
+    }
+}
+
+fn selected(alloc: Global, fields: &[Value], field: u32) -> Result<Value, Stop>
+    ensures { Comes result (spec.selected (slice_get (values_of fields.now) field)) }
+{
+    match fields.get(field as usize) {
+        Some(value) => Ok(copy_value(alloc, value)?),
+        None => Err(Stop::Selector),
+    }
+}
+
+/// An operator on one value.
+pub fn unary(alloc: Global, table: &TypeTable, operator: Unary, value: &Value) -> Result<Value, Stop>
+    ensures { Comes result (spec.unary table.now (unary_of operator) (value_of value.now)) }
+{
+    match (operator, value) {
+        (Unary::Negate, Value::Int(x)) => negated(*x),
+        (Unary::Not, Value::Bool(b)) => Ok(Value::Bool(!*b)),
+        (Unary::ToText, value) => written(alloc, table, value),
+        (Unary::FromText(ty), Value::Text(text)) => read(alloc, table, ty, text),
+        (Unary::Length, Value::Text(text)) => text_length(text),
+        (Unary::IsMadeBy(constructor), Value::Cons { id, fields: _ }) => {
+            Ok(Value::Bool(constructor == *id))
+        }
+        (Unary::Select { constructor, field }, Value::Cons { id, fields }) => {
+            if constructor == *id {
+                selected(alloc, fields.as_slice(), field)
+            } else {
+                Err(Stop::Selector)
+            }
+        }
+        _ => Err(Stop::Wrong),
+    }
+}
+
+/// An operator on two values.
+pub fn binary(alloc: Global, operator: Binary, a: &Value, b: &Value) -> Result<Value, Stop>
+    ensures { Comes result (spec.binary (binary_of operator) (value_of a.now) (value_of b.now)) }
+{
+    match (a, b) {
+        (Value::Int(x), Value::Int(y)) => on_numbers(operator, *x, *y),
+        (Value::Text(x), Value::Text(y)) => on_texts(alloc, operator, x, y),
+        (Value::Text(x), Value::Int(at)) if operator == Binary::CharAt => char_at(alloc, x, *at),
+        _ => {
+            if operator == Binary::Differ {
+                Ok(Value::Bool(!same(a, b)))
+            } else {
+                Err(Stop::Wrong)
+            }
+        }
+    }
+}

@@ -1,0 +1,71 @@
+ghost use Rattle.std.specs.Prelude.{◌≡◌, ◌++◌, pos, length, chars};
+ghost use Rattle.txs_values.specs.Value.{text};
+ghost use Rattle.txs_values.specs.View.{value_of};
+ghost use Rattle.txs_terms.specs.Eval as spec;
+ghost use Rattle.txs_terms.specs.View.{binary_of};
+ghost use Rattle.txs_eval.specs.Answer.{Comes};
+
+use crate::fault::Stop;
+use std::alloc::Global;
+use txs_terms::Binary;
+use txs_values::{Text, Value, height_of, size_of};
+
+const SIZE_LIMIT: u64 = 16_384;
+
+const HEIGHT_LIMIT: u64 = 1_000;
+
+/// The value, where it is neither too large nor too high.
+pub fn sized(value: Value) -> Result<Value, Stop>
+    ensures { Comes result (spec.sized (value_of value)) }
+{
+    if size_of(&value) > SIZE_LIMIT {
+        return Err(Stop::Size);
+    }
+    if height_of(&value) > HEIGHT_LIMIT {
+        return Err(Stop::Size);
+    }
+    Ok(value)
+}
+
+/// How many characters the text has.
+pub fn text_length(text: &Text) -> Result<Value, Stop>
+    ensures { Comes result (spec.in_range (pos (length (chars text.now)))) }
+{
+    Ok(Value::Int(text.as_str().chars().count() as i128))
+}
+
+fn joined(alloc: Global, a: &Text, b: &Text) -> Result<Value, Stop>
+    ensures { Comes result (spec.sized (text (a.now ++ b.now))) }
+{
+    let mut whole = String::from_str(alloc, a.as_str())?;
+    whole.push_str(b.as_str())?;
+    sized(Value::Text(Text::from_string(whole)))
+}
+
+/// The character at a place of the text.
+pub fn char_at(alloc: Global, text: &Text, at: i128) -> Result<Value, Stop>
+    ensures { Comes result (spec.char_from text.now at) }
+{
+    if at < 0 || at > 1_000_000_000_000 {
+        return Err(Stop::Selector);
+    }
+    match text.as_str().chars().nth(at as usize) {
+        Some(found) => {
+            let mut whole = String::new(alloc);
+            whole.push(found)?;
+            Ok(Value::Text(Text::from_string(whole)))
+        }
+        None => Err(Stop::Selector),
+    }
+}
+
+/// An operator on two texts.
+pub fn on_texts(alloc: Global, operator: Binary, a: &Text, b: &Text) -> Result<Value, Stop>
+    ensures { Comes result (spec.text_binary (binary_of operator) a.now b.now) }
+{
+    match operator {
+        Binary::Concat => joined(alloc, a, b),
+        Binary::Differ => Ok(Value::Bool(!a.is(b))),
+        _ => Err(Stop::Wrong),
+    }
+}
