@@ -38,15 +38,15 @@ pub record IsTyped (d : Definitions) (values : List Value) (e : Expr) (t : Ty) :
 
 -- it stopped by this fault, or for want of memory
 abbrev pub Stopped : {A : Type 0} → (Fault → A) → Stop → A → Type 0
-Stopped bad stop.Division o = o ≡ bad division
-Stopped bad stop.Range o = o ≡ bad range
-Stopped bad stop.Selector o = o ≡ bad selector
-Stopped bad stop.Form o = o ≡ bad form
-Stopped bad stop.High o = o ≡ bad high
-Stopped bad stop.Long o = o ≡ bad long
-Stopped bad stop.Size o = o ≡ bad big
-Stopped bad stop.Wrong o = o ≡ bad wrong
-Stopped bad stop.NoMemory o = Unit {0}
+Stopped go stop.Division o = o ≡ go division
+Stopped go stop.Range o = o ≡ go range
+Stopped go stop.Selector o = o ≡ go selector
+Stopped go stop.Form o = o ≡ go form
+Stopped go stop.High o = o ≡ go high
+Stopped go stop.Long o = o ≡ go long
+Stopped go stop.Size o = o ≡ go big
+Stopped go stop.Wrong o = o ≡ go wrong
+Stopped go stop.NoMemory o = Unit {0}
 
 -- the outcome of an operator
 abbrev pub Comes : Result rust.Value Stop → Outcome → Type 0

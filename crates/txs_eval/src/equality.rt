@@ -24,9 +24,13 @@ pub fn same(a: &Value, b: &Value) -> bool
 fn same_fields(xs: &[Value], ys: &[Value]) -> bool
     ensures { result ≡ same_each (packed (values_of xs.now)) (packed (values_of ys.now)) }
 {
-    match (xs, ys) {
-        ([], []) => true,
-        ([x, xs @ ..], [y, ys @ ..]) => same(x, y) && same_fields(xs, ys),
-        _ => false,
+    if xs.len() != ys.len() {
+        return false;
     }
+    for index in 0..xs.len() {
+        if !same(&xs[index], &ys[index]) {
+            return false;
+        }
+    }
+    true
 }

@@ -2,11 +2,11 @@
 #![tactic(auto)]
 
 mod equality;
-mod eval;
+mod evaluation;
 mod fault;
 mod numbers;
 mod operators;
 mod texts;
 
-pub use eval::eval;
+pub use evaluation::eval;
 pub use fault::EvalFault;

@@ -1,5 +1,6 @@
-ghost use Rattle.std.specs.Prelude.{◌≡◌, ◌+ℤ◌, ◌-ℤ◌, ◌*ℤ◌, neg_ℤ, int_div, int_rem, cond, ℤ};
-ghost use Rattle.txs_terms.specs.Eval.{Outcome, in_range, divided};
+ghost use Rattle.std.specs.Prelude.{◌≡◌, neg_ℤ, ℤ, FitsSigned, SomeIff};
+ghost use Rattle.std.specs.Int.{w128};
+ghost use Rattle.txs_terms.specs.Eval.{in_range, divided};
 ghost use Rattle.txs_terms.specs.Expr.{divide, remainder};
 ghost use Rattle.txs_terms.specs.Eval as spec;
 ghost use Rattle.txs_terms.specs.View.{binary_of};
@@ -9,24 +10,29 @@ use crate::fault::Stop;
 use txs_terms::Binary;
 use txs_values::Value;
 
-pub fn negated(x: i128) -> Result<Value, Stop>
-    ensures { Comes result (in_range (neg_ℤ x)) }
+/// A number, where it is one of Int.
+pub fn whole(number: Option<i128>) -> Result<Value, Stop>
+    ensures { (x : ℤ) → SomeIff number (FitsSigned w128 x) x → Comes result (in_range x) }
 {
-    match x.checked_neg() {
+    match number {
         Some(number) => Ok(Value::Int(number)),
         None => Err(Stop::Range),
     }
+}
+
+pub fn negated(x: i128) -> Result<Value, Stop>
+    ensures { Comes result (in_range (neg_ℤ x)) }
+{
+    whole(x.checked_neg())
 }
 
 fn quotient(x: i128, y: i128) -> Result<Value, Stop>
     ensures { Comes result (divided divide x y) }
 {
     if y == 0 {
-        return Err(Stop::Division);
-    }
-    match x.checked_div(y) {
-        Some(number) => Ok(Value::Int(number)),
-        None => Err(Stop::Range),
+        Err(Stop::Division)
+    } else {
+        whole(x.checked_div(y))
     }
 }
 
@@ -35,38 +41,11 @@ fn rest(x: i128, y: i128) -> Result<Value, Stop>
     ensures { Comes result (divided remainder x y) }
 {
     if y == 0 {
-        return Err(Stop::Division);
-    }
-    if y == -1 {
-        return Ok(Value::Int(0));
-    }
-    Ok(Value::Int(x % y))
-}
-
-fn sum(x: i128, y: i128) -> Result<Value, Stop>
-    ensures { Comes result (in_range (x +ℤ y)) }
-{
-    match x.checked_add(y) {
-        Some(number) => Ok(Value::Int(number)),
-        None => Err(Stop::Range),
-    }
-}
-
-fn difference(x: i128, y: i128) -> Result<Value, Stop>
-    ensures { Comes result (in_range (x -ℤ y)) }
-{
-    match x.checked_sub(y) {
-        Some(number) => Ok(Value::Int(number)),
-        None => Err(Stop::Range),
-    }
-}
-
-fn product(x: i128, y: i128) -> Result<Value, Stop>
-    ensures { Comes result (in_range (x *ℤ y)) }
-{
-    match x.checked_mul(y) {
-        Some(number) => Ok(Value::Int(number)),
-        None => Err(Stop::Range),
+        Err(Stop::Division)
+    } else if y == -1 {
+        whole(Some(0))
+    } else {
+        whole(Some(x % y))
     }
 }
 
@@ -75,9 +54,9 @@ pub fn on_numbers(operator: Binary, x: i128, y: i128) -> Result<Value, Stop>
     ensures { Comes result (spec.whole_binary (binary_of operator) x y) }
 {
     match operator {
-        Binary::Plus => sum(x, y),
-        Binary::Minus => difference(x, y),
-        Binary::Times => product(x, y),
+        Binary::Plus => whole(x.checked_add(y)),
+        Binary::Minus => whole(x.checked_sub(y)),
+        Binary::Times => whole(x.checked_mul(y)),
         Binary::Divide => quotient(x, y),
         Binary::Remainder => rest(x, y),
         Binary::LessThan => Ok(Value::Bool(x < y)),

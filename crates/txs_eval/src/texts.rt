@@ -1,4 +1,4 @@
-ghost use Rattle.std.specs.Prelude.{◌≡◌, ◌++◌, pos, length, chars};
+ghost use Rattle.std.specs.Prelude.{◌≡◌, ◌++◌, pos, length, chars, encode_utf8, slice_get};
 ghost use Rattle.txs_values.specs.Value.{text};
 ghost use Rattle.txs_values.specs.View.{value_of};
 ghost use Rattle.txs_terms.specs.Eval as spec;
@@ -6,6 +6,7 @@ ghost use Rattle.txs_terms.specs.View.{binary_of};
 ghost use Rattle.txs_eval.specs.Answer.{Comes};
 
 use crate::fault::Stop;
+use crate::numbers::whole;
 use std::alloc::Global;
 use txs_terms::Binary;
 use txs_values::{Text, Value, height_of, size_of};
@@ -27,11 +28,23 @@ pub fn sized(value: Value) -> Result<Value, Stop>
     Ok(value)
 }
 
+fn char_count(text: &str) -> usize
+    ensures { result ≡ length (chars text.now) }
+{
+    text.chars().count()
+}
+
+fn nth_char(text: &str, at: usize) -> Option<char>
+    ensures { result ≡ slice_get (chars text.now) at }
+{
+    text.chars().nth(at)
+}
+
 /// How many characters the text has.
 pub fn text_length(text: &Text) -> Result<Value, Stop>
     ensures { Comes result (spec.in_range (pos (length (chars text.now)))) }
 {
-    Ok(Value::Int(text.as_str().chars().count() as i128))
+    whole(Some(char_count(text.as_str()) as i128))
 }
 
 fn joined(alloc: Global, a: &Text, b: &Text) -> Result<Value, Stop>
@@ -46,17 +59,21 @@ fn joined(alloc: Global, a: &Text, b: &Text) -> Result<Value, Stop>
 pub fn char_at(alloc: Global, text: &Text, at: i128) -> Result<Value, Stop>
     ensures { Comes result (spec.char_from text.now at) }
 {
-    if at < 0 || at > 1_000_000_000_000 {
+    if at < 0 || at >= char_count(text.as_str()) as i128 {
         return Err(Stop::Selector);
     }
-    match text.as_str().chars().nth(at as usize) {
-        Some(found) => {
-            let mut whole = String::new(alloc);
-            whole.push(found)?;
-            Ok(Value::Text(Text::from_string(whole)))
-        }
+    match nth_char(text.as_str(), at as usize) {
+        Some(found) => char_text(alloc, found),
         None => Err(Stop::Selector),
     }
+}
+
+fn char_text(alloc: Global, found: char) -> Result<Value, Stop>
+    ensures { Comes result (spec.fine (text (encode_utf8 found))) }
+{
+    let mut whole = String::new(alloc);
+    whole.push(found)?;
+    Ok(Value::Text(Text::from_string(whole)))
 }
 
 /// An operator on two texts.

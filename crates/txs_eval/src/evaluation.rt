@@ -1,5 +1,5 @@
 ghost use Rattle.std.specs.Prelude.{◌≡◌, ◌≢◌, ◌≤◌, IfOk, OnOk, Err, [], slice_get};
-ghost use Rattle.txs_values.specs.Value.{Ty as Type, HasType};
+ghost use Rattle.txs_values.specs.Value.{Ty as TheType, HasType};
 ghost use Rattle.txs_values.specs.View.{value_of, values_of};
 ghost use Rattle.txs_terms.specs.Eval as spec;
 ghost use Rattle.txs_terms.specs.Expr.{put, filled};
@@ -24,10 +24,10 @@ const NODE_LIMIT: u32 = 1_000_000;
 
 /// The value of an expression, slot k of which is the value k; or the fault that its evaluation meets first, by the limits of height and nodes among them.
 pub fn eval(alloc: Global, defs: &Defs, expr: &Expr, values: &Values) -> Result<Value, EvalFault>
-    requires typed { (t : Type) × IsTyped (definitions_of defs.now) (values_of values.now) (expr_of expr.now) t }
+    requires typed { (t : TheType) × IsTyped (definitions_of defs.now) (values_of values.now) (expr_of expr.now) t }
     ensures value { Answers (spec.eval (bodies (definitions_of defs.now))
         (put (filled (values_of values.now)) (expr_of expr.now))) result }
-    ensures typed { (t : Type) → IsTyped (definitions_of defs.now) (values_of values.now) (expr_of expr.now) t
+    ensures typed { (t : TheType) → IsTyped (definitions_of defs.now) (values_of values.now) (expr_of expr.now) t
         → IfOk result (λ v. HasType defs.now.0 (value_of v) t) }
 {
     match body(alloc, defs, HEIGHT_LIMIT, values.as_slice(), expr, 0) {

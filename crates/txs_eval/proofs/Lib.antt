@@ -1,0 +1,5 @@
+pub mod Alike
+pub mod Views
+pub mod Ranges
+pub mod Characters
+pub mod Sizes
