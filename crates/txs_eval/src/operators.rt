@@ -1,4 +1,5 @@
 ghost use Rattle.std.specs.Prelude.{◌≡◌, slice_get};
+ghost use Rattle.txs_values.specs.Spelled.{IsNamed};
 ghost use Rattle.txs_values.specs.View.{value_of, values_of, ty_of};
 ghost use Rattle.txs_terms.specs.Eval as spec;
 ghost use Rattle.txs_terms.specs.Expr.{to_text};
@@ -23,6 +24,7 @@ fn written(alloc: Global, table: &TypeTable, value: &Value) -> Result<Value, Sto
 }
 
 fn read(alloc: Global, table: &TypeTable, ty: Ty, text: &Text) -> Result<Value, Stop>
+    requires { IsNamed table.now }
     ensures { Comes result (spec.text_to table.now (ty_of ty) text.now) }
 {
     if ty == Ty::Text {
@@ -46,6 +48,7 @@ fn selected(alloc: Global, fields: &[Value], field: u32) -> Result<Value, Stop>
 
 /// An operator on one value.
 pub fn unary(alloc: Global, table: &TypeTable, operator: Unary, value: &Value) -> Result<Value, Stop>
+    requires { IsNamed table.now }
     ensures { Comes result (spec.unary table.now (unary_of operator) (value_of value.now)) }
 {
     match (operator, value) {

@@ -63,8 +63,16 @@ impl Defs {
         }
     }
 
+    /// What holds of all definitions, as a fact for a caller's proof.
+    pub fn defined(&self)
+        ensures { AreDefined (definitions_of self.now) }
+    {
+        let _table = &self.table;
+    }
+
     pub fn table(&self) -> &TypeTable
-        ensures { result.now ≡ self.now.0 }
+        ensures table { result.now ≡ self.now.0 }
+        ensures defined { AreDefined (definitions_of self.now) }
     {
         &self.table
     }
