@@ -1,18 +1,17 @@
 -- How the front of a text is read, one function of the code each.
-use Rattle.std.specs.Prelude.{◌≡◌, ℕ, ◌+◌, ◌^◌, pos, Bool, true, false, not, ◌&&◌, cond, eqb, nat_lt, nat_le, List, [], ◌∷◌, ◌++◌, IsUtf8, length, take, drop, Option, Some, None, Result, Ok, Err, bytes_eq}
-use Rattle.std.specs.List.{position}
+use Rattle.std.specs.Prelude.{◌≡◌, ℕ, ◌+◌, ◌^◌, ℤ, pos, Bool, true, false, not, ◌&&◌, cond, eqb, nat_lt, nat_le, List, [], ◌∷◌, ◌++◌, IsUtf8, length, take, drop, Option, Some, None, Result, Ok, Err, bytes_eq}
+use Rattle.std.specs.List.{position_from}
 use Rattle.std.specs.Str.Parse.{digits_value}
 use Rattle.txs_values.specs.Spelling.{is_digit, is_letter, is_name_byte, escape_of, run_of}
 use Rattle.txs_lexer.specs.Tokens.{is_blank, is_in_line, is_plain, Fails}
 use Rattle.txs_lexer.specs.Lexed.{Answer, Lexed}
+use Rattle.txs_lexer.specs.Words.{words, symbols}
 use Rattle.txs_lexer.specs.declared.fault.LexFault.{LexFault}
 use Rattle.txs_lexer.specs.declared.fault.LexFault.TheVariants.{NoMemory, TooLong, NotUtf8, BadChar, OpenText, OpenComment, Number as TooLarge}
 use Rattle.txs_lexer.specs.declared.front.Front.{Front}
 use Rattle.txs_lexer.specs.declared.front.Front.TheVariants.{Gap, Piece}
 use Rattle.txs_lexer.specs.declared.token.Kind.{Kind}
 use Rattle.txs_lexer.specs.declared.token.Kind.TheVariants.{Name, Word, Number, Quoted, Symbol}
-use Rattle.txs_lexer.specs.declared.tables.TheConstants.{WORDS}
-use Rattle.txs_lexer.specs.declared.tables.TheConstants.{SYMBOLS}
 
 -- a fault that the text gives, or want of memory, which says nothing
 abbrev pub Stops : LexFault → Type 0 → Type 0
@@ -31,8 +30,12 @@ Gives (Err fault) want = Stops fault (want ≡ Err fault)
 
 -- ---- names
 
+-- the place of these bytes among the texts
+unfoldable pub place_of : List (List ℕ) → List ℕ → Option ℕ
+place_of texts bytes = position_from (λ text. bytes_eq text bytes) 0 texts
+
 abbrev pub word_number : List ℕ → Option ℕ
-word_number name = position (λ word. bytes_eq word.now name) WORDS
+word_number name = place_of words name
 
 abbrev pub named_by : Option ℕ → List ℕ → Front
 named_by None name = Piece (Name name) (length name)
@@ -40,8 +43,16 @@ named_by (Some k) name = Piece (Word k) (length name)
 
 -- ---- numbers
 
+-- the number of these digits, where it is in range
+abbrev pub number_of : List ℕ → Option ℤ
+number_of digits = cond (nat_lt (digits_value 10 digits) (2 ^ 127)) (Some (pos (digits_value 10 digits))) None
+
+abbrev pub numbered_by : ℕ → ℕ → Option ℤ → Result Front LexFault
+numbered_by at len None = Err (TooLarge at)
+numbered_by at len (Some n) = Ok (Piece (Number n) len)
+
 unfoldable pub numbered : ℕ → List ℕ → Result Front LexFault
-numbered at digits = cond (nat_lt (digits_value 10 digits) (2 ^ 127)) (Ok (Piece (Number (pos (digits_value 10 digits))) (length digits))) (Err (TooLarge at))
+numbered at digits = numbered_by at (length digits) (number_of digits)
 
 -- ---- texts
 
@@ -50,6 +61,16 @@ abbrev pub inside_len : List ℕ → ℕ
 inside_len [] = 0
 inside_len (b ∷ []) = cond (is_plain b) 1 0
 inside_len (b ∷ c ∷ bs) = cond (is_plain b) (inside_len (c ∷ bs) + 1) (cond (eqb b 92 && not (eqb c 10)) (inside_len bs + 2) 0)
+
+abbrev pub escaped : Option ℕ → Option (ℕ × ℕ)
+escaped None = None
+escaped (Some b) = Some (b, 2)
+
+-- the first character of what stands between quotes, and in how many bytes it is written
+abbrev pub character : List ℕ → Option (ℕ × ℕ)
+character [] = None
+character (b ∷ []) = cond (eqb b 92) None (Some (b, 1))
+character (b ∷ c ∷ bs) = cond (eqb b 92) (escaped (escape_of c)) (Some (b, 1))
 
 abbrev pub with_byte : ℕ → Result (List ℕ) ℕ → Result (List ℕ) ℕ
 with_byte b (Ok bs) = Ok (b ∷ bs)
@@ -87,14 +108,15 @@ quoted at behind =
 
 -- ---- comments and symbols
 
-abbrev pub one_more : Option ℕ → Option ℕ
-one_more None = None
-one_more (Some n) = Some (n + 1)
+-- so many more
+abbrev pub more_by : ℕ → Option ℕ → Option ℕ
+more_by n None = None
+more_by n (Some k) = Some (n + k)
 
 -- how many bytes stand before the first `-}`
 abbrev pub before_end : List ℕ → Option ℕ
 before_end [] = None
-before_end (b ∷ bs) = cond (eqb b 45 && begins_with 125 bs) (Some 0) (one_more (before_end bs))
+before_end (b ∷ bs) = cond (eqb b 45 && begins_with 125 bs) (Some 0) (more_by 1 (before_end bs))
 
 abbrev pub ended_by : ℕ → Option ℕ → Result Front LexFault
 ended_by at None = Err (OpenComment at)
@@ -102,7 +124,7 @@ ended_by at (Some n) = Ok (Gap (n + 4))
 
 -- the number of the symbol that the first n bytes are
 abbrev pub symbol_number : ℕ → List ℕ → Option ℕ
-symbol_number n text = cond (nat_le n (length text)) (position (λ symbol. bytes_eq symbol.now (take n text)) SYMBOLS) None
+symbol_number n text = cond (nat_le n (length text)) (place_of symbols (take n text)) None
 
 abbrev pub symbol_by : Option ℕ → ℕ → Result Front LexFault → Result Front LexFault
 symbol_by None n shorter = shorter

@@ -1,5 +1,5 @@
 //! Kinds of bytes, and how long runs of them are.
-ghost use Rattle.std.specs.Prelude.{◌≡◌, ◌≤◌, length};
+ghost use Rattle.std.specs.Prelude.{◌≡◌, ◌≤◌, length, take, drop};
 ghost use Rattle.txs_values.specs.Spelling;
 ghost use Rattle.txs_values.specs.Spelling.{run_of};
 ghost use Rattle.txs_lexer.specs.Scan;
@@ -50,6 +50,22 @@ pub fn begins_with(byte: u8, bytes: &[u8]) -> bool
         [] => false,
         [first, ..] => *first == byte,
     }
+}
+
+/// What stands behind the first `len` bytes.
+pub fn past(bytes: &[u8], len: usize) -> &[u8]
+    requires { len ≤ length bytes.now }
+    ensures { result.now ≡ drop len bytes.now }
+{
+    &bytes[len..]
+}
+
+/// The first `len` bytes.
+pub fn first(bytes: &[u8], len: usize) -> &[u8]
+    requires { len ≤ length bytes.now }
+    ensures { result.now ≡ take len bytes.now }
+{
+    &bytes[..len]
 }
 
 /// How many letters, digits and `_` stand in front.

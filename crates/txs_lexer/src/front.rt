@@ -3,7 +3,7 @@ ghost use Rattle.std.specs.Prelude.{◌≡◌, ◌<◌, ◌≤◌, ◌+◌, ◌^
 ghost use Rattle.txs_lexer.specs.Scan.{Gives, IsTail, front_of};
 
 use crate::LexFault;
-use crate::byte::{digits_len, is_blank, is_digit, is_letter, name_len};
+use crate::byte::{digits_len, first, is_blank, is_digit, is_letter, name_len};
 use crate::name::name_token;
 use crate::number::number_token;
 use crate::quoted::quoted_token;
@@ -27,9 +27,9 @@ pub fn read_front(alloc: Global, at: usize, rest: &[u8]) -> Result<Front, LexFau
 {
     match rest {
         [] => Ok(Front::Gap(0)),
-        [first, ..] if is_blank(*first) => Ok(Front::Gap(1)),
-        [first, ..] if is_letter(*first) => name_token(alloc, &rest[..name_len(rest)]),
-        [first, ..] if is_digit(*first) => number_token(at, &rest[..digits_len(rest)]),
+        [byte, ..] if is_blank(*byte) => Ok(Front::Gap(1)),
+        [byte, ..] if is_letter(*byte) => name_token(alloc, first(rest, name_len(rest))),
+        [byte, ..] if is_digit(*byte) => number_token(at, first(rest, digits_len(rest))),
         [b'"', behind @ ..] => quoted_token(alloc, at, behind),
         _ => sign(at, rest),
     }

@@ -1,6 +1,5 @@
-ghost use Rattle.std.specs.Prelude.{◌≡◌, ◌<◌, ◌^◌, pos, cond, nat_lt, Some, None};
-ghost use Rattle.std.specs.Str.Parse.{digits_value};
-ghost use Rattle.txs_lexer.specs.Scan.{numbered};
+ghost use Rattle.std.specs.Prelude.{◌≡◌};
+ghost use Rattle.txs_lexer.specs.Scan.{number_of, numbered};
 ghost use Rattle.txs_lexer.specs.Tokens.{IsNumeral};
 
 use crate::LexFault;
@@ -10,7 +9,7 @@ use crate::token::Kind;
 /// The number of these digits, where it is at most 2^127 - 1.
 fn number_of(digits: &[u8]) -> Option<i128>
     requires { IsNumeral digits.now }
-    ensures { result ≡ cond (nat_lt (digits_value 10 digits.now) (2 ^ 127)) (Some (pos (digits_value 10 digits.now))) None }
+    ensures { result ≡ number_of digits.now }
 {
     match std::str::from_utf8(digits) {
         Ok(text) => match text.parse::<i128>() {
@@ -22,6 +21,7 @@ fn number_of(digits: &[u8]) -> Option<i128>
 }
 
 /// The token of a run of digits.
+#[tactic(auto, unfolding(crate::specs::Scan::numbered))]
 pub fn number_token(at: usize, digits: &[u8]) -> Result<Front, LexFault>
     requires { IsNumeral digits.now }
     ensures { result ≡ numbered at digits.now }

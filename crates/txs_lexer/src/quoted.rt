@@ -1,10 +1,10 @@
 //! Texts in quotes.
 ghost use Rattle.std.specs.Prelude.{◌≡◌, ◌<◌, ◌≤◌, ◌+◌, ◌^◌, ◌∷◌, length, IfOk, IfErr};
 ghost use Rattle.txs_values.specs.Spelling;
-ghost use Rattle.txs_lexer.specs.Scan.{Gives, IsTail, inside_len, meaning, quoted};
+ghost use Rattle.txs_lexer.specs.Scan.{Gives, IsTail, character, inside_len, meaning, quoted};
 
 use crate::LexFault;
-use crate::byte::{begins_with, is_plain};
+use crate::byte::{begins_with, first, is_plain, past};
 use crate::front::Front;
 use crate::name::text_of;
 use crate::token::Kind;
@@ -20,7 +20,7 @@ fn inside_len(bytes: &[u8]) -> usize
     let mut rest = bytes;
     loop {
         match rest {
-            [first, others @ ..] if is_plain(*first) => {
+            [byte, others @ ..] if is_plain(*byte) => {
                 len += 1;
                 rest = others;
             }
@@ -47,6 +47,20 @@ fn escape_of(byte: u8) -> Option<u8>
     }
 }
 
+/// The first character of what stands between quotes, and in how many bytes it is written.
+fn character(inside: &[u8]) -> Option<(u8, usize)>
+    ensures { result ≡ character inside.now }
+{
+    match inside {
+        [b'\\', second, ..] => match escape_of(*second) {
+            Some(byte) => Some((byte, 2)),
+            None => None,
+        },
+        [] | [b'\\', ..] => None,
+        [byte, ..] => Some((*byte, 1)),
+    }
+}
+
 /// What stands between the quotes means, or how far in its first wrong escape is.
 fn meaning(alloc: Global, inside: &[u8]) -> Result<Result<Bytes, usize>, NoMemory>
     ensures read { IfOk result (λ read. read ≡ meaning inside.now) }
@@ -55,25 +69,17 @@ fn meaning(alloc: Global, inside: &[u8]) -> Result<Result<Bytes, usize>, NoMemor
     let mut text = Bytes::new(alloc);
     let mut len = 0;
     let mut rest = inside;
-    loop {
-        match rest {
-            [] => return Ok(Ok(text)),
-            [b'\\'] => return Ok(Err(len)),
-            [b'\\', second, others @ ..] => match escape_of(*second) {
-                Some(byte) => {
-                    text.push(byte)?;
-                    len += 2;
-                    rest = others;
-                }
-                None => return Ok(Err(len)),
-            },
-            [first, others @ ..] => {
-                text.push(*first)?;
-                len += 1;
-                rest = others;
+    while !rest.is_empty() {
+        match character(rest) {
+            None => return Ok(Err(len)),
+            Some((byte, width)) => {
+                text.push(byte)?;
+                len += width;
+                rest = past(rest, width);
             }
         }
     }
+    Ok(Ok(text))
 }
 
 /// The text whose opening quote stands at `at`, before these bytes.
@@ -83,11 +89,10 @@ pub fn quoted_token(alloc: Global, at: usize, behind: &[u8]) -> Result<Front, Le
     ensures { Gives result (quoted at behind.now) }
 {
     let len = inside_len(behind);
-    let (inside, rest) = behind.split_at(len);
-    if !begins_with(b'"', rest) {
+    if !begins_with(b'"', past(behind, len)) {
         return Err(LexFault::OpenText { at });
     }
-    match meaning(alloc, inside)? {
+    match meaning(alloc, first(behind, len))? {
         Ok(text) => {
             let text = text_of(alloc, text.as_slice())?;
             Ok(Front::Piece(Kind::Quoted(text), len + 2))

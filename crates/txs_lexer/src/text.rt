@@ -3,6 +3,7 @@ ghost use Rattle.txs_lexer.specs.Lexed.{Answer, IsLexed, AreSlices, text_limit};
 ghost use Rattle.txs_lexer.specs.Scan.{IsTail, Reads};
 
 use crate::LexFault;
+use crate::byte::past;
 use crate::front::{Front, read_front};
 use crate::token::{Token, Tokens};
 use std::alloc::Global;
@@ -48,7 +49,7 @@ fn all_tokens(alloc: Global, text: &[u8]) -> Result<Tokens, LexFault>
             }
         };
         at += len;
-        rest = &rest[len..];
+        rest = past(rest, len);
     }
     Ok(tokens)
 }

@@ -1,0 +1,9 @@
+pub mod Runs
+pub mod Steps
+pub mod Tests
+pub mod Numerals
+pub mod Places
+pub mod Utf8
+pub mod Texts
+pub mod Quoting
+pub mod Fronts
