@@ -7,3 +7,7 @@ pub mod Utf8
 pub mod Texts
 pub mod Quoting
 pub mod Fronts
+pub mod Comments
+pub mod Symbols
+pub mod Sound
+pub mod Exact

@@ -12,7 +12,7 @@ seam : (xs : List ℕ) (b : ℕ) (ys : List ℕ) → get_or (xs ++ b ∷ ys) (le
 seam [] b ys = refl
 seam (x ∷ xs) b ys = seam xs b ys
 
-take-seam : (xs ys : List ℕ) → take (length xs) (xs ++ ys) ≡ xs
+pub take-seam : (xs ys : List ℕ) → take (length xs) (xs ++ ys) ≡ xs
 take-seam [] ys = refl
 take-seam (x ∷ xs) ys = ap (λ (q : List ℕ). x ∷ q) (take-seam xs ys)
 
