@@ -77,7 +77,7 @@ name-is : (bs : List ℕ) → is_name bs ≡ true → IsName bs
 name-is [] h = absurd (cc)
 name-is (b ∷ bs) h = let both = and-both (is_letter b) (are_name_bytes bs) h in (both.0, name-bytes bs both.1)
 
-word-name : (k : ℕ) (s : List ℕ) → slice_get words k ≡ Some s → IsName s
+pub word-name : (k : ℕ) (s : List ℕ) → slice_get words k ≡ Some s → IsName s
 word-name k s h = name-is s (all-at is_name words k s refl h)
 
 -- ---- texts

@@ -11,3 +11,5 @@ pub mod Comments
 pub mod Symbols
 pub mod Sound
 pub mod Exact
+pub mod Whole
+pub mod Reading

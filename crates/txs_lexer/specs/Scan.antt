@@ -1,5 +1,5 @@
 -- How the front of a text is read, one function of the code each.
-use Rattle.std.specs.Prelude.{◌≡◌, ℕ, ◌+◌, ◌^◌, ℤ, pos, Bool, true, false, not, ◌&&◌, cond, eqb, nat_lt, nat_le, List, [], ◌∷◌, ◌++◌, IsUtf8, length, take, drop, Option, Some, None, Result, Ok, Err, bytes_eq}
+use Rattle.std.specs.Prelude.{◌≡◌, ℕ, ◌+◌, ◌^◌, ◌<◌, ◌≤◌, ℤ, pos, Bool, true, false, not, ◌&&◌, cond, eqb, nat_lt, nat_le, List, [], ◌∷◌, ◌++◌, IsUtf8, length, take, drop, Option, Some, None, Result, Ok, Err, bytes_eq}
 use Rattle.std.specs.List.{position_from}
 use Rattle.std.specs.Str.Parse.{digits_value}
 use Rattle.txs_values.specs.Spelling.{is_digit, is_letter, is_name_byte, escape_of, run_of}
@@ -11,6 +11,7 @@ use Rattle.txs_lexer.specs.declared.fault.LexFault.TheVariants.{NoMemory, TooLon
 use Rattle.txs_lexer.specs.declared.front.Front.{Front}
 use Rattle.txs_lexer.specs.declared.front.Front.TheVariants.{Gap, Piece}
 use Rattle.txs_lexer.specs.declared.token.Kind.{Kind}
+use Rattle.txs_lexer.specs.declared.token.Token.{Token}
 use Rattle.txs_lexer.specs.declared.token.Kind.TheVariants.{Name, Word, Number, Quoted, Symbol}
 
 -- a fault that the text gives, or want of memory, which says nothing
@@ -167,3 +168,14 @@ pub record IsTail (rest : List ℕ) : Type 0 where
 abbrev pub Reads : ℕ → List ℕ → Answer → Type 0
 Reads at text (Ok ts) = Lexed at text (Ok ts)
 Reads at text (Err fault) = Stops fault (Lexed at text (Err fault))
+
+-- what stands behind tokens that were read before
+abbrev pub behind : List Token → Answer → Answer
+behind tokens (Ok more) = Ok (tokens ++ more)
+behind tokens (Err fault) = Err fault
+
+-- n bytes were read: whatever the rest of the text gives, behind the tokens had now, the text gives behind those had before
+pub record Steps (at : ℕ) (text : List ℕ) (old new : List Token) (n : ℕ) : Type 0 where
+  pub some : 0 < n
+  pub within : n ≤ length text
+  pub goes : (answer : Answer) → Lexed (at + n) (drop n text) answer → (more : Answer) × Lexed at text more × (behind old more ≡ behind new answer)

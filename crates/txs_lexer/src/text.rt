@@ -1,6 +1,7 @@
-ghost use Rattle.std.specs.Prelude.{◌≡◌, ◌≢◌, ◌↔◌, ◌≤◌, ◌<◌, ◌+◌, ◌^◌, ℕ, List, length, IfOk, Ok, Err, IsUtf8};
-ghost use Rattle.txs_lexer.specs.Lexed.{Answer, IsLexed, AreSlices, text_limit};
-ghost use Rattle.txs_lexer.specs.Scan.{IsTail, Reads};
+ghost use Rattle.std.specs.Prelude.{◌≡◌, ◌≢◌, ◌↔◌, ◌≤◌, ◌<◌, ◌+◌, ◌^◌, ℕ, List, length, IfOk, MatchResult, Err, IsUtf8};
+ghost use Rattle.txs_lexer.specs.Lexed.{Answer, IsLexed, AreSlices};
+ghost use Rattle.txs_lexer.specs.Scan.{IsTail, Reads, Steps, Stops};
+ghost use Rattle.txs_lexer.specs.Tokens.{Fails};
 
 use crate::LexFault;
 use crate::byte::past;
@@ -28,6 +29,26 @@ pub fn lex(alloc: Global, bytes: &[u8]) -> Result<Tokens, LexFault>
     }
 }
 
+/// Reads one blank, comment or token, which goes to the tokens, and says how many bytes it has.
+fn read_one(alloc: Global, tokens: &mut Tokens, at: usize, rest: &[u8]) -> Result<usize, LexFault>
+    requires tail { IsTail rest.now }
+    requires some { 0 < length rest.now }
+    requires fits { at + length rest.now + 2 < 2 ^ 64 }
+    ensures { MatchResult result (λ n. Steps at rest.now tokens.old tokens.new n) (λ fault. Stops fault (Fails at rest.now fault)) }
+{
+    match read_front(alloc, at, rest)? {
+        Front::Gap(len) => Ok(len),
+        Front::Piece(kind, len) => {
+            tokens.push(Token {
+                kind,
+                from: at,
+                to: at + len,
+            })?;
+            Ok(len)
+        }
+    }
+}
+
 fn all_tokens(alloc: Global, text: &[u8]) -> Result<Tokens, LexFault>
     requires small { length text.now ≤ 1048576 }
     requires utf8 { IsUtf8 text.now }
@@ -37,17 +58,7 @@ fn all_tokens(alloc: Global, text: &[u8]) -> Result<Tokens, LexFault>
     let mut at = 0;
     let mut rest = text;
     while !rest.is_empty() {
-        let len = match read_front(alloc, at, rest)? {
-            Front::Gap(len) => len,
-            Front::Piece(kind, len) => {
-                tokens.push(Token {
-                    kind,
-                    from: at,
-                    to: at + len,
-                })?;
-                len
-            }
-        };
+        let len = read_one(alloc, &mut tokens, at, rest)?;
         at += len;
         rest = past(rest, len);
     }
