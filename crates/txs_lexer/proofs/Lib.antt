@@ -1,0 +1,15 @@
+pub mod Runs
+pub mod Steps
+pub mod Tests
+pub mod Numerals
+pub mod Places
+pub mod Utf8
+pub mod Texts
+pub mod Quoting
+pub mod Fronts
+pub mod Comments
+pub mod Symbols
+pub mod Sound
+pub mod Exact
+pub mod Whole
+pub mod Reading
