@@ -23,6 +23,10 @@ abbrev pub Shallow : ℕ → Marked → Type 0
 Shallow limit [] = Unit {0}
 Shallow limit (m ∷ us) = (m.0 < limit) × Shallow limit us
 
+-- the tokens spell the expression from depth d on, and each of them is within the depth
+abbrev pub SpellsWithin : ℕ → Ast → Tokens → Type 0
+SpellsWithin d tree p = (marked : Marked) × SpellsAt expr d tree marked × (tokens_of marked ≡ p) × Shallow depth_limit marked
+
 -- the tokens of some expression from depth d on begin with p, and each of p is within the depth
 abbrev pub Within : ℕ → Tokens → Type 0
 Within d p = (tree : Ast) × (before more : Marked) × SpellsAt expr d tree (before ++ more) × (tokens_of before ≡ p) × Shallow depth_limit before
