@@ -227,20 +227,20 @@ room_left : (l : ℕ) → (l ≡ 0 → ⊥) → (readers l).is_full ≡ false
 room_left zero h = absurd (h refl)
 room_left (suc l) h = refl
 
-pub call_empty : (l : ℕ) (ts : Tokens) (n : ℕ) (x y : Name) → (l ≡ 0 → ⊥) → true ≡ on (is_symbol 37) (drop n ts) (λ _. true) false → y ≡ x
-    → call_at (readers l) x (drop n ts) ≡ ok (tree.Call y []) (drop (n + 1) ts)
-call_empty l ts n x y g h e =
+pub call_empty : (l : ℕ) (ts : Tokens) (n : ℕ) (x : Name) (f : Ast) → (l ≡ 0 → ⊥) → true ≡ on (is_symbol 37) (drop n ts) (λ _. true) false → f ≡ tree.Call x []
+    → call_at (readers l) x (drop n ts) ≡ ok f (drop (n + 1) ts)
+call_empty l ts n x f g h e =
     let q : (readers l).is_full ≡ false = room_left l g in
     on_step (is_symbol 37) ts n h (λ ts1. where_room (readers l).is_full (drop n ts) (ok (tree.Call x []) ts1)) _
-    ∙ (ap (λ b. where_room b (drop n ts) (ok (tree.Call x []) (drop (n + 1) ts))) q ∙ ap (λ z. ok (tree.Call z []) (drop (n + 1) ts)) (sym e))
+    ∙ (ap (λ b. where_room b (drop n ts) (ok (tree.Call x []) (drop (n + 1) ts))) q ∙ ap (λ z. ok z (drop (n + 1) ts)) (sym e))
 
-pub call_end : (l : ℕ) (ts : Tokens) (n m : ℕ) (x y : Name) (es : List Ast) → false ≡ on (is_symbol 37) (drop n ts) (λ _. true) false
-    → args l (drop n ts) ≡ ok es (drop m ts) → true ≡ on (is_symbol 37) (drop m ts) (λ _. true) false → y ≡ x
-    → call_at (readers l) x (drop n ts) ≡ ok (tree.Call y es) (drop (m + 1) ts)
-call_end l ts n m x y es h q k e =
+pub call_end : (l : ℕ) (ts : Tokens) (n m : ℕ) (x : Name) (f : Ast) (es : List Ast) → false ≡ on (is_symbol 37) (drop n ts) (λ _. true) false
+    → args l (drop n ts) ≡ ok es (drop m ts) → true ≡ on (is_symbol 37) (drop m ts) (λ _. true) false → f ≡ tree.Call x es
+    → call_at (readers l) x (drop n ts) ≡ ok f (drop (m + 1) ts)
+call_end l ts n m x f es h q k e =
     let close = λ (zs : List Ast) (ts1 : Tokens). expect (is_symbol 37) ts1 (λ ts2. ok (tree.Call x zs) ts2) in
     on_stop (is_symbol 37) (drop n ts) h (λ ts1. where_room (readers l).is_full (drop n ts) (ok (tree.Call x []) ts1)) (after (args l (drop n ts)) close)
-    ∙ (ap (λ o. after o close) q ∙ (on_step (is_symbol 37) ts m k (λ ts2. ok (tree.Call x es) ts2) (bad (drop m ts)) ∙ ap (λ z. ok (tree.Call z es) (drop (m + 1) ts)) (sym e)))
+    ∙ (ap (λ o. after o close) q ∙ (on_step (is_symbol 37) ts m k (λ ts2. ok (tree.Call x es) ts2) (bad (drop m ts)) ∙ ap (λ z. ok z (drop (m + 1) ts)) (sym e)))
 
 pub named_call : (l : ℕ) (ts : Tokens) (n : ℕ) (x : Name) → true ≡ on (is_symbol 36) (drop n ts) (λ _. true) false
     → call_at (readers l) x (drop (n + 1) ts) ≡ on (is_symbol 36) (drop n ts) (call_at (readers l) x) (ok (tree.Name x) (drop n ts))

@@ -9,8 +9,10 @@ ghost use Rattle.txs_parse_expr.specs.View.{Says, Stopped, fault};
 use crate::fault::{ParseFault, Stop};
 use crate::sign::{Strength, sign_at};
 use crate::token::{begins, has_symbol, has_word, minus_at, place_of};
-use crate::tree::{binary, choice, group, name_at, negate, nest, text_at};
-use sqlite_items::Items;
+use crate::tree::{
+    binary, call_of, choice, group, name_at, negate, nest, number, quoted, variable,
+};
+use sqlite_items::{Boxed, Items};
 use std::alloc::Global;
 use txs_lexer::symbol::{CLOSE, COMMA, IS, OPEN, SEMICOLON};
 use txs_lexer::word::{ELSE, FI, IF, IN, LET, NI, THEN};
@@ -37,7 +39,7 @@ fn too_deep(tokens: &[Token], at: usize) -> Stop
 
 /// Expr, from the token numbered `at`, where `left` more constructs may be open.
 #[cycle(expr)]
-fn expr(alloc: Global, tokens: &[Token], at: usize, left: u32) -> Result<(Ast, usize), Stop>
+fn expr(alloc: Global, tokens: &[Token], at: usize, left: u32) -> Result<(Boxed<Ast>, usize), Stop>
     ensures value { Says tokens.now result ((readers left).expr (drop at tokens.now)) }
     ensures room { OnOk result (0 < left) }
     ensures forward { IfOk result (λ p. at < p.1) }
@@ -55,7 +57,7 @@ fn expr(alloc: Global, tokens: &[Token], at: usize, left: u32) -> Result<(Ast, u
 
 /// And
 #[cycle(expr)]
-fn conj(alloc: Global, tokens: &[Token], at: usize, left: u32) -> Result<(Ast, usize), Stop>
+fn conj(alloc: Global, tokens: &[Token], at: usize, left: u32) -> Result<(Boxed<Ast>, usize), Stop>
     ensures value { Says tokens.now result ((readers left).conj (drop at tokens.now)) }
     ensures room { OnOk result (0 < left) }
     ensures forward { IfOk result (λ p. at < p.1) }
@@ -73,7 +75,7 @@ fn conj(alloc: Global, tokens: &[Token], at: usize, left: u32) -> Result<(Ast, u
 
 /// Cmp
 #[cycle(expr)]
-fn cmp(alloc: Global, tokens: &[Token], at: usize, left: u32) -> Result<(Ast, usize), Stop>
+fn cmp(alloc: Global, tokens: &[Token], at: usize, left: u32) -> Result<(Boxed<Ast>, usize), Stop>
     ensures value { Says tokens.now result ((readers left).cmp (drop at tokens.now)) }
     ensures room { OnOk result (0 < left) }
     ensures forward { IfOk result (λ p. at < p.1) }
@@ -91,7 +93,7 @@ fn cmp(alloc: Global, tokens: &[Token], at: usize, left: u32) -> Result<(Ast, us
 
 /// Cat
 #[cycle(expr)]
-fn cat(alloc: Global, tokens: &[Token], at: usize, left: u32) -> Result<(Ast, usize), Stop>
+fn cat(alloc: Global, tokens: &[Token], at: usize, left: u32) -> Result<(Boxed<Ast>, usize), Stop>
     ensures value { Says tokens.now result ((readers left).cat (drop at tokens.now)) }
     ensures room { OnOk result (0 < left) }
     ensures forward { IfOk result (λ p. at < p.1) }
@@ -109,7 +111,7 @@ fn cat(alloc: Global, tokens: &[Token], at: usize, left: u32) -> Result<(Ast, us
 
 /// Sum
 #[cycle(expr)]
-fn sum(alloc: Global, tokens: &[Token], at: usize, left: u32) -> Result<(Ast, usize), Stop>
+fn sum(alloc: Global, tokens: &[Token], at: usize, left: u32) -> Result<(Boxed<Ast>, usize), Stop>
     ensures value { Says tokens.now result ((readers left).sum (drop at tokens.now)) }
     ensures room { OnOk result (0 < left) }
     ensures forward { IfOk result (λ p. at < p.1) }
@@ -128,7 +130,7 @@ fn sum(alloc: Global, tokens: &[Token], at: usize, left: u32) -> Result<(Ast, us
 
 /// Prod
 #[cycle(expr)]
-fn prod(alloc: Global, tokens: &[Token], at: usize, left: u32) -> Result<(Ast, usize), Stop>
+fn prod(alloc: Global, tokens: &[Token], at: usize, left: u32) -> Result<(Boxed<Ast>, usize), Stop>
     ensures value { Says tokens.now result ((readers left).prod (drop at tokens.now)) }
     ensures room { OnOk result (0 < left) }
     ensures forward { IfOk result (λ p. at < p.1) }
@@ -147,7 +149,7 @@ fn prod(alloc: Global, tokens: &[Token], at: usize, left: u32) -> Result<(Ast, u
 
 /// Un
 #[cycle(expr)]
-fn un(alloc: Global, tokens: &[Token], at: usize, left: u32) -> Result<(Ast, usize), Stop>
+fn un(alloc: Global, tokens: &[Token], at: usize, left: u32) -> Result<(Boxed<Ast>, usize), Stop>
     ensures value { Says tokens.now result ((readers left).un (drop at tokens.now)) }
     ensures room { OnOk result (0 < left) }
     ensures forward { IfOk result (λ p. at < p.1) }
@@ -167,7 +169,7 @@ fn un(alloc: Global, tokens: &[Token], at: usize, left: u32) -> Result<(Ast, usi
 
 /// Prim
 #[cycle(expr)]
-fn prim(alloc: Global, tokens: &[Token], at: usize, left: u32) -> Result<(Ast, usize), Stop>
+fn prim(alloc: Global, tokens: &[Token], at: usize, left: u32) -> Result<(Boxed<Ast>, usize), Stop>
     requires { 0 < left }
     ensures value { Says tokens.now result (reader.prim_at (readers (left - 1)) (drop at tokens.now)) }
     ensures forward { IfOk result (λ p. at < p.1) }
@@ -177,14 +179,8 @@ fn prim(alloc: Global, tokens: &[Token], at: usize, left: u32) -> Result<(Ast, u
         return Err(Stop::Unexpected(at));
     };
     match &token.kind {
-        Kind::Number(value) => Ok((
-            Ast::Number {
-                at: token.from,
-                value: *value,
-            },
-            at + 1,
-        )),
-        Kind::Quoted(text) => Ok((text_at(alloc, token.from, text)?, at + 1)),
+        Kind::Number(value) => Ok((number(alloc, token.from, *value)?, at + 1)),
+        Kind::Quoted(text) => Ok((quoted(alloc, token.from, text)?, at + 1)),
         Kind::Name(text) => named(alloc, tokens, at + 1, left, token.from, text),
         Kind::Symbol(symbol) => {
             if *symbol == OPEN {
@@ -213,7 +209,7 @@ fn bracket(
     at: usize,
     left: u32,
     place: usize,
-) -> Result<(Ast, usize), Stop>
+) -> Result<(Boxed<Ast>, usize), Stop>
     requires { 0 < left }
     ensures value { Says tokens.now result (reader.group_at (readers (left - 1)) place (drop at tokens.now)) }
     ensures forward { IfOk result (λ p. at < p.1) }
@@ -234,7 +230,7 @@ fn choose(
     at: usize,
     left: u32,
     place: usize,
-) -> Result<(Ast, usize), Stop>
+) -> Result<(Boxed<Ast>, usize), Stop>
     requires { 0 < left }
     ensures value { Says tokens.now result (reader.if_at (readers (left - 1)) place (drop at tokens.now)) }
     ensures forward { IfOk result (λ p. at < p.1) }
@@ -264,7 +260,7 @@ fn named(
     left: u32,
     place: usize,
     text: &Text,
-) -> Result<(Ast, usize), Stop>
+) -> Result<(Boxed<Ast>, usize), Stop>
     requires room { 0 < left }
     requires place { at ≤ length tokens.now }
     ensures value { Says tokens.now result (reader.on (reader.is_symbol 36) (drop at tokens.now) (reader.call_at (readers (left - 1)) (record { at = place; text = text.now }))
@@ -273,7 +269,7 @@ fn named(
     ensures within { IfOk result (λ p. p.1 ≤ length tokens.now) }
 {
     if !has_symbol(tokens, at, OPEN) {
-        return Ok((Ast::Name(name_at(alloc, place, text)?), at));
+        return Ok((variable(alloc, place, text)?, at));
     }
     call(alloc, tokens, at + 1, left, place, text)
 }
@@ -287,7 +283,7 @@ fn call(
     left: u32,
     place: usize,
     text: &Text,
-) -> Result<(Ast, usize), Stop>
+) -> Result<(Boxed<Ast>, usize), Stop>
     requires { 0 < left }
     ensures value { Says tokens.now result (reader.call_at (readers (left - 1)) (record { at = place; text = text.now }) (drop at tokens.now)) }
     ensures forward { IfOk result (λ p. at < p.1) }
@@ -297,21 +293,13 @@ fn call(
         if left == 1 {
             return Err(Stop::Deep(at));
         }
-        let name = name_at(alloc, place, text)?;
-        return Ok((
-            Ast::Call {
-                name,
-                arguments: Items::new(alloc),
-            },
-            at + 1,
-        ));
+        return Ok((call_of(alloc, place, text, Items::new(alloc))?, at + 1));
     }
     let (arguments, next) = arguments(alloc, tokens, at, left - 1)?;
     if !has_symbol(tokens, next, CLOSE) {
         return Err(Stop::Unexpected(next));
     }
-    let name = name_at(alloc, place, text)?;
-    Ok((Ast::Call { name, arguments }, next + 1))
+    Ok((call_of(alloc, place, text, arguments)?, next + 1))
 }
 
 /// Expr { "," Expr }
@@ -330,7 +318,7 @@ fn arguments(
     let mut next = at;
     loop {
         let (e, end) = expr(alloc, tokens, next, left)?;
-        items.push(e)?;
+        items.push(e.into_inner())?;
         if !has_symbol(tokens, end, COMMA) {
             return Ok((items, end));
         }
@@ -346,7 +334,7 @@ fn lets(
     at: usize,
     left: u32,
     place: usize,
-) -> Result<(Ast, usize), Stop>
+) -> Result<(Boxed<Ast>, usize), Stop>
     requires { 0 < left }
     ensures value { Says tokens.now result (reader.let_at (readers (left - 1)) place (drop at tokens.now)) }
     ensures forward { IfOk result (λ p. at < p.1) }
@@ -370,7 +358,7 @@ fn binds(
     tokens: &[Token],
     at: usize,
     left: u32,
-) -> Result<(Items<(Name, Ast)>, usize), Stop>
+) -> Result<(Items<(Name, Boxed<Ast>)>, usize), Stop>
     ensures value { Says tokens.now result (reader.many (reader.bind_at (readers left)) 43 (suc (length (drop at tokens.now))) (drop at tokens.now)) }
     ensures forward { IfOk result (λ p. at < p.1) }
     ensures within { IfOk result (λ p. p.1 ≤ length tokens.now) }
@@ -389,7 +377,12 @@ fn binds(
 
 /// Bind
 #[cycle(expr)]
-fn bind(alloc: Global, tokens: &[Token], at: usize, left: u32) -> Result<((Name, Ast), usize), Stop>
+fn bind(
+    alloc: Global,
+    tokens: &[Token],
+    at: usize,
+    left: u32,
+) -> Result<((Name, Boxed<Ast>), usize), Stop>
     ensures value { Says tokens.now result (reader.bind_at (readers left) (drop at tokens.now)) }
     ensures forward { IfOk result (λ p. at < p.1) }
     ensures within { IfOk result (λ p. p.1 ≤ length tokens.now) }
@@ -415,7 +408,7 @@ fn bind_value(
     left: u32,
     place: usize,
     text: &Text,
-) -> Result<((Name, Ast), usize), Stop>
+) -> Result<((Name, Boxed<Ast>), usize), Stop>
     requires { at < length tokens.now }
     ensures value { Says tokens.now result (reader.where_room (readers left).is_full (drop at tokens.now) (reader.value_at (readers left) (record { at = place; text = text.now }) (drop (at + 1) tokens.now))) }
     ensures forward { IfOk result (λ p. at < p.1) }
@@ -436,7 +429,7 @@ fn value(
     left: u32,
     place: usize,
     text: &Text,
-) -> Result<((Name, Ast), usize), Stop>
+) -> Result<((Name, Boxed<Ast>), usize), Stop>
     ensures value { Says tokens.now result (reader.value_at (readers left) (record { at = place; text = text.now }) (drop at tokens.now)) }
     ensures forward { IfOk result (λ p. at < p.1) }
     ensures within { IfOk result (λ p. p.1 ≤ length tokens.now) }
@@ -477,7 +470,7 @@ pub fn parse_expr(
 {
     let tokens = tokens.as_slice();
     match expr(alloc, tokens, from, LIMIT.saturating_sub(depth)) {
-        Ok(read) => Ok(read),
+        Ok((tree, next)) => Ok((tree.into_inner(), next)),
         Err(stop) => Err(fault_of(tokens, len, stop)),
     }
 }

@@ -9,61 +9,6 @@ use std::alloc::Global;
 use txs_syntax::{Ast, Name, Op};
 use txs_values::Text;
 
-pub fn binary(alloc: Global, op: Op, a: Ast, b: Ast) -> Result<Ast, Stop>
-    ensures { MatchResult result (λ e. e ≡ tree.Binary op a b) (λ f. f ≡ NoMemory) }
-{
-    let left = Boxed::new(alloc, a)?;
-    let right = Boxed::new(alloc, b)?;
-    Ok(Ast::Binary { op, left, right })
-}
-
-pub fn negate(alloc: Global, at: usize, a: Ast) -> Result<Ast, Stop>
-    ensures { MatchResult result (λ e. e ≡ tree.Negate at a) (λ f. f ≡ NoMemory) }
-{
-    let operand = Boxed::new(alloc, a)?;
-    Ok(Ast::Negate { at, operand })
-}
-
-pub fn group(alloc: Global, at: usize, a: Ast) -> Result<Ast, Stop>
-    ensures { MatchResult result (λ e. e ≡ tree.Group at a) (λ f. f ≡ NoMemory) }
-{
-    let inner = Boxed::new(alloc, a)?;
-    Ok(Ast::Group { at, inner })
-}
-
-pub fn choice(alloc: Global, at: usize, c: Ast, a: Ast, b: Ast) -> Result<Ast, Stop>
-    ensures { MatchResult result (λ e. e ≡ tree.If at c a b) (λ f. f ≡ NoMemory) }
-{
-    let condition = Boxed::new(alloc, c)?;
-    let yes = Boxed::new(alloc, a)?;
-    let no = Boxed::new(alloc, b)?;
-    Ok(Ast::If {
-        at,
-        condition,
-        yes,
-        no,
-    })
-}
-
-/// Each binding around the ones after it.
-pub fn nest(alloc: Global, at: usize, list: Items<(Name, Ast)>, e: Ast) -> Result<Ast, Stop>
-    ensures { MatchResult result (λ t. t ≡ grammar.bound at list e) (λ f. f ≡ NoMemory) }
-{
-    let mut list = list;
-    let mut body = e;
-    while let Some((name, value)) = list.pop() {
-        let value = Boxed::new(alloc, value)?;
-        let inner = Boxed::new(alloc, body)?;
-        body = Ast::Let {
-            at,
-            name,
-            value,
-            body: inner,
-        };
-    }
-    Ok(body)
-}
-
 /// The name, at its place.
 pub fn name_at(alloc: Global, at: usize, text: &Text) -> Result<Name, Stop>
     ensures { MatchResult result (λ n. n ≡ record { at = at; text = text.now }) (λ f. f ≡ NoMemory) }
@@ -72,9 +17,98 @@ pub fn name_at(alloc: Global, at: usize, text: &Text) -> Result<Name, Stop>
     Ok(Name { at, text })
 }
 
-pub fn text_at(alloc: Global, at: usize, text: &Text) -> Result<Ast, Stop>
+pub fn number(alloc: Global, at: usize, value: i128) -> Result<Boxed<Ast>, Stop>
+    ensures { MatchResult result (λ e. e ≡ tree.Number at value) (λ f. f ≡ NoMemory) }
+{
+    Ok(Boxed::new(alloc, Ast::Number { at, value })?)
+}
+
+pub fn quoted(alloc: Global, at: usize, text: &Text) -> Result<Boxed<Ast>, Stop>
     ensures { MatchResult result (λ e. e ≡ tree.Text at text.now) (λ f. f ≡ NoMemory) }
 {
     let text = text.copy(alloc)?;
-    Ok(Ast::Text { at, text })
+    Ok(Boxed::new(alloc, Ast::Text { at, text })?)
+}
+
+pub fn variable(alloc: Global, at: usize, text: &Text) -> Result<Boxed<Ast>, Stop>
+    ensures { MatchResult result (λ e. e ≡ tree.Name (record { at = at; text = text.now })) (λ f. f ≡ NoMemory) }
+{
+    let name = name_at(alloc, at, text)?;
+    Ok(Boxed::new(alloc, Ast::Name(name))?)
+}
+
+pub fn call_of(
+    alloc: Global,
+    at: usize,
+    text: &Text,
+    arguments: Items<Ast>,
+) -> Result<Boxed<Ast>, Stop>
+    ensures { MatchResult result (λ e. e ≡ tree.Call (record { at = at; text = text.now }) arguments) (λ f. f ≡ NoMemory) }
+{
+    let name = name_at(alloc, at, text)?;
+    Ok(Boxed::new(alloc, Ast::Call { name, arguments })?)
+}
+
+pub fn binary(
+    alloc: Global,
+    op: Op,
+    left: Boxed<Ast>,
+    right: Boxed<Ast>,
+) -> Result<Boxed<Ast>, Stop>
+    ensures { MatchResult result (λ e. e ≡ tree.Binary op left right) (λ f. f ≡ NoMemory) }
+{
+    Ok(Boxed::new(alloc, Ast::Binary { op, left, right })?)
+}
+
+pub fn negate(alloc: Global, at: usize, operand: Boxed<Ast>) -> Result<Boxed<Ast>, Stop>
+    ensures { MatchResult result (λ e. e ≡ tree.Negate at operand) (λ f. f ≡ NoMemory) }
+{
+    Ok(Boxed::new(alloc, Ast::Negate { at, operand })?)
+}
+
+pub fn group(alloc: Global, at: usize, inner: Boxed<Ast>) -> Result<Boxed<Ast>, Stop>
+    ensures { MatchResult result (λ e. e ≡ tree.Group at inner) (λ f. f ≡ NoMemory) }
+{
+    Ok(Boxed::new(alloc, Ast::Group { at, inner })?)
+}
+
+pub fn choice(
+    alloc: Global,
+    at: usize,
+    condition: Boxed<Ast>,
+    yes: Boxed<Ast>,
+    no: Boxed<Ast>,
+) -> Result<Boxed<Ast>, Stop>
+    ensures { MatchResult result (λ e. e ≡ tree.If at condition yes no) (λ f. f ≡ NoMemory) }
+{
+    let tree = Ast::If {
+        at,
+        condition,
+        yes,
+        no,
+    };
+    Ok(Boxed::new(alloc, tree)?)
+}
+
+/// Each binding around the ones after it.
+pub fn nest(
+    alloc: Global,
+    at: usize,
+    list: Items<(Name, Boxed<Ast>)>,
+    e: Boxed<Ast>,
+) -> Result<Boxed<Ast>, Stop>
+    ensures { MatchResult result (λ t. t ≡ grammar.bound at list e) (λ f. f ≡ NoMemory) }
+{
+    let mut list = list;
+    let mut body = e;
+    while let Some((name, value)) = list.pop() {
+        let tree = Ast::Let {
+            at,
+            name,
+            value,
+            body,
+        };
+        body = Boxed::new(alloc, tree)?;
+    }
+    Ok(body)
 }

@@ -70,13 +70,13 @@ arguments-loop-items-preserved t c =
 
 pub call-returns-then-has_symbol-clause-value : goal.call-returns-then-has_symbol-clause-value
 call-returns-then-has_symbol-clause-value t c =
-    let q : tree.Call c.in_ok-name.name c.new.result ≡ tree.Call c.in_ok-name.name [] = ap (tree.Call c.in_ok-name.name) c.new.ensures in
-    rw q (call_empty (c.args.left - 1) c.args.tokens.now c.args.at (record { at = c.args.place; text = c.args.text.now }) c.in_ok-name.name (λ e. c.if-left-eq1.false (let k = c.requires in omega arith)) c.if-has_symbol.ensures.value c.in_ok-name.ensures)
+    call_empty (c.args.left - 1) c.args.tokens.now c.args.at (record { at = c.args.place; text = c.args.text.now }) c.in_ok-call_of.field-0 (λ e. c.if-left-eq1.false (let k = c.requires in omega arith)) c.if-has_symbol.ensures.value
+    (c.in_ok-call_of.ensures ∙ ap (tree.Call (record { at = c.args.place; text = c.args.text.now })) c.new.ensures)
 
 pub call-returns-clause-value : goal.call-returns-clause-value
 call-returns-clause-value t c =
-    call_end (c.args.left - 1) c.args.tokens.now c.args.at c.in_ok-arguments.next (record { at = c.args.place; text = c.args.text.now }) c.in_ok-name-2.name c.in_ok-arguments.arguments c.if-has_symbol.ensures.value
-    c.in_ok-arguments.ensures.value c.if-not-has_symbol.ensures.value c.in_ok-name-2.ensures
+    call_end (c.args.left - 1) c.args.tokens.now c.args.at c.in_ok-arguments.next (record { at = c.args.place; text = c.args.text.now }) c.in_ok-call_of-2.field-0 c.in_ok-arguments.arguments c.if-has_symbol.ensures.value
+    c.in_ok-arguments.ensures.value c.if-not-has_symbol.ensures.value c.in_ok-call_of-2.ensures
 
 pub choose-returns-in_err-a-clause-value : goal.choose-returns-in_err-a-clause-value
 choose-returns-in_err-a-clause-value t c =

@@ -5,7 +5,7 @@ use Rattle.txs_parse_expr.proofs.parse.parse_expr.Goals as goal
 pub returns-in-Ok : goal.returns-in-Ok
 unfolding depth_limit
 returns-in-Ok c =
-    record { exact = exact_ok c.args.tokens.now c.args.from c.args.len c.args.depth c.in-Ok.read.0 c.in-Ok.read.1 c.requires (rw c.as_slice-tokens.ensures at c.in-Ok.ensures.within) (rw (c.saturating_sub.ensures, c.as_slice-tokens.ensures) at c.in-Ok.ensures.value) }
+    record { exact = rw c.into_inner.ensures (exact_ok c.args.tokens.now c.args.from c.args.len c.args.depth c.in-Ok.tree c.in-Ok.next c.requires (rw c.as_slice-tokens.ensures at c.in-Ok.ensures.within) (rw (c.saturating_sub.ensures, c.as_slice-tokens.ensures) at c.in-Ok.ensures.value)) }
 
 pub returns-in-Err : goal.returns-in-Err
 unfolding depth_limit
