@@ -2,6 +2,7 @@ mod First
 mod Sound
 mod Lines
 mod Levels
+mod Closing
 mod Complete
 mod Meaning
 mod Exact

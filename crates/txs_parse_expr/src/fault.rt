@@ -1,8 +1,11 @@
 ghost use Rattle.std.specs.Prelude.{◌≡◌};
 ghost use Rattle.txs_parse_expr.specs.declared.fault.Stop.TheVariants as stop;
+ghost use Rattle.txs_parse_expr.specs.View.{fault};
 
+use crate::token::place_of;
 use std::alloc::{AllocError, AllocFailed};
 use thiserror::Error;
+use txs_lexer::Token;
 
 /// Why no expression is read; `at` is a byte of the text.
 #[derive(Clone, Copy, Debug, PartialEq, Eq, Error)]
@@ -44,5 +47,20 @@ impl From<txs_values::NoMemory> for Stop {
 
     fn from(_error: txs_values::NoMemory) -> Stop {
         Stop::NoMemory
+    }
+}
+
+/// The fault of a text of so many bytes.
+pub fn fault_of(tokens: &[Token], len: usize, stop: Stop) -> ParseFault
+    ensures { result ≡ fault len tokens.now stop }
+{
+    match stop {
+        Stop::Unexpected(next) => ParseFault::Unexpected {
+            at: place_of(tokens, next, len),
+        },
+        Stop::Deep(token) => ParseFault::Deep {
+            at: place_of(tokens, token, len),
+        },
+        Stop::NoMemory => ParseFault::NoMemory,
     }
 }

@@ -4,11 +4,11 @@ ghost use Rattle.txs_syntax.specs.Grammar.{OneTree};
 ghost use Rattle.txs_parse_expr.specs.Answer.{IsExact};
 ghost use Rattle.txs_parse_expr.specs.Reader as reader;
 ghost use Rattle.txs_parse_expr.specs.Reader.{readers};
-ghost use Rattle.txs_parse_expr.specs.View.{Says, Stopped, fault};
+ghost use Rattle.txs_parse_expr.specs.View.{Says};
 
-use crate::fault::{ParseFault, Stop};
+use crate::fault::{ParseFault, Stop, fault_of};
 use crate::sign::{Strength, sign_at};
-use crate::token::{begins, has_symbol, has_word, minus_at, place_of};
+use crate::token::{has_symbol, has_word, minus_at, too_deep};
 use crate::tree::{
     binary, call_of, choice, group, name_at, negate, nest, number, quoted, variable,
 };
@@ -22,20 +22,6 @@ use txs_values::Text;
 
 /// The depth that no token may have.
 const LIMIT: u32 = 501;
-
-/// What is wrong where no construct may be open any more.
-fn too_deep(tokens: &[Token], at: usize) -> Stop
-    ensures { Stopped tokens.now result (reader.full_at (drop at tokens.now)) }
-{
-    match tokens.get(at) {
-        Some(token) => if begins(token) {
-            Stop::Deep(at)
-        } else {
-            Stop::Unexpected(at)
-        },
-        None => Stop::Unexpected(at),
-    }
-}
 
 /// Expr, from the token numbered `at`, where `left` more constructs may be open.
 #[cycle(expr)]
@@ -440,21 +426,6 @@ fn value(
     let (e, next) = expr(alloc, tokens, at + 1, left)?;
     let name = name_at(alloc, place, text)?;
     Ok(((name, e), next))
-}
-
-/// The fault of a text of so many bytes.
-fn fault_of(tokens: &[Token], len: usize, stop: Stop) -> ParseFault
-    ensures { result ≡ fault len tokens.now stop }
-{
-    match stop {
-        Stop::Unexpected(at) => ParseFault::Unexpected {
-            at: place_of(tokens, at, len),
-        },
-        Stop::Deep(at) => ParseFault::Deep {
-            at: place_of(tokens, at, len),
-        },
-        Stop::NoMemory => ParseFault::NoMemory,
-    }
 }
 
 /// The longest run of tokens, from the one with the number `from` on, with which the tokens of some expression begin: where it is itself an expression, that one and the number of the token after it. Else `Unexpected` is at the token after the run, or at `len`, the length of the text, where no token is left. `depth` is the depth at the first token; `Deep` is at the first token of the run whose depth is more than 500, and goes before the other answers.

@@ -1,7 +1,9 @@
 ghost use Rattle.std.specs.Prelude.{◌≡◌, ◌<◌, drop, length, IsTrue, OnSome, Some, None, true, false};
 ghost use Rattle.txs_parse_expr.specs.Answer as answer;
 ghost use Rattle.txs_parse_expr.specs.Reader as reader;
+ghost use Rattle.txs_parse_expr.specs.View.{Stopped};
 
+use crate::fault::Stop;
 use txs_lexer::symbol::{MINUS, OPEN};
 use txs_lexer::word::{IF, LET};
 use txs_lexer::{Kind, Token};
@@ -62,7 +64,7 @@ pub fn minus_at(tokens: &[Token], at: usize) -> Option<usize>
 }
 
 /// Whether an expression may begin with the token.
-pub fn begins(token: &Token) -> bool
+fn begins(token: &Token) -> bool
     ensures { result ≡ reader.begins token.now }
 {
     match &token.kind {
@@ -71,6 +73,20 @@ pub fn begins(token: &Token) -> bool
         Kind::Name(_) => true,
         Kind::Number(_) => true,
         Kind::Quoted(_) => true,
+    }
+}
+
+/// What is wrong where no construct may be open any more.
+pub fn too_deep(tokens: &[Token], at: usize) -> Stop
+    ensures { Stopped tokens.now result (reader.full_at (drop at tokens.now)) }
+{
+    match tokens.get(at) {
+        Some(token) => if begins(token) {
+            Stop::Deep(at)
+        } else {
+            Stop::Unexpected(at)
+        },
+        None => Stop::Unexpected(at),
     }
 }
 

@@ -1,4 +1,4 @@
-use Rattle.std.proofs.Common.{◌≡◌, ◌+◌, ◌-◌, ◌<◌, [], drop, arith, ap, ◌∙◌, sym, subst}
+use Rattle.std.proofs.Common.{◌+◌, ◌-◌, ◌<◌, drop, arith, ap, ◌∙◌, sym, subst}
 use Rattle.std.proofs.lemmas.Result.{err_from_is_err_and}
 use Rattle.txs_parse_expr.specs.View.{Says}
 use Rattle.txs_parse_expr.specs.Reader.{value_at}

@@ -1,5 +1,4 @@
 use Rattle.std.proofs.Common.{◌≡◌, ◌++◌, ◌∷◌, [], ◌∙◌, ap, sym}
-use Rattle.txs_syntax.specs.declared.ast.Ast.TheVariants as tree
 use Rattle.txs_syntax.specs.Grammar.{bound}
 use Rattle.txs_parse_expr.proofs.Steps.{bound_last}
 use Rattle.txs_parse_expr.proofs.tree.nest.Goals as goal
