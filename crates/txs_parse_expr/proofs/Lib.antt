@@ -1,0 +1,9 @@
+mod First
+mod Sound
+mod Lines
+mod Levels
+mod Closing
+mod Complete
+mod Meaning
+mod Exact
+mod Steps

@@ -1,0 +1,8 @@
+//! The trees that a file is read into, and the tokens that spell them.
+#![tactic(auto)]
+
+mod ast;
+mod file;
+
+pub use ast::{Ast, Name, Op};
+pub use file::{ConDef, Decl, DeclList, Def, File};
