@@ -1,0 +1,141 @@
+use crate::reading::{Kind, Stop, lone};
+use crate::{Ty, TypeTable, Value};
+use std::alloc::Global;
+use thiserror::Error;
+
+/// Why bytes are not read as a value of a type.
+#[derive(Clone, Copy, Debug, PartialEq, Eq, Error)]
+pub enum ReadValueFault {
+    #[error("the text is not UTF-8: send it in that encoding")]
+    NotText,
+    #[error("the text goes wrong at byte {at}: write a value of the type from there on")]
+    WrongForm { at: usize },
+    #[error("the number at byte {at} is past the range of Int: keep it within -2^127 to 2^127 - 1")]
+    Range { at: usize },
+    #[error("the parenthesis at byte {at} stands in 1,000 others: nest values less deeply")]
+    TooDeep { at: usize },
+    #[error("the value is larger than 16,384: make it smaller")]
+    TooBig,
+    #[error("memory ran out: free some and try again")]
+    NoMemory,
+}
+
+const VALUE_SIZE_LIMIT: u64 = 16_384;
+
+/// The value of this type that the bytes spell.
+pub fn read_value(
+    alloc: Global,
+    table: &TypeTable,
+    ty: Ty,
+    bytes: &[u8],
+) -> Result<Value, ReadValueFault> {
+    if std::str::from_utf8(bytes).is_err() {
+        return Err(ReadValueFault::NotText);
+    }
+    match lone(alloc, table, ty, bytes) {
+        Ok(value) => Ok(value),
+        Err(Stop::NoMemory) => Err(ReadValueFault::NoMemory),
+        Err(Stop::At(kind, left)) => Err(fault(kind, bytes.len().saturating_sub(left))),
+    }
+}
+
+fn fault(kind: Kind, at: usize) -> ReadValueFault {
+    match kind {
+        Kind::Wrong => ReadValueFault::WrongForm { at },
+        Kind::Past => ReadValueFault::Range { at },
+        Kind::Deep => ReadValueFault::TooDeep { at },
+        Kind::Broken => ReadValueFault::NotText,
+    }
+}
+
+#[cfg(test)]
+mod tests {
+    use super::*;
+    use crate::{ConsDef, FieldDef, NoMemory, Text, TypeDef};
+    use sqlite_items::Items;
+    use std::test::Fail;
+
+    fn defined(
+        alloc: Global,
+        table: &mut TypeTable,
+        name: &str,
+        constructors: &[(&str, &[Ty])],
+    ) -> Result<(), NoMemory> {
+        let mut cons = Items::new(alloc);
+        for (name, types) in constructors {
+            let mut fields = Items::new(alloc);
+            for ty in *types {
+                let name = Text::from_str(alloc, "field")?;
+                fields.push(FieldDef { name, ty: *ty })?;
+            }
+            let name = Text::from_str(alloc, name)?;
+            cons.push(ConsDef { name, fields })?;
+        }
+        let name = Text::from_str(alloc, name)?;
+        table.add(TypeDef { name, cons })
+    }
+
+    const OP: Ty = Ty::Named(0);
+    const LIST: Ty = Ty::Named(1);
+    const PAIR: Ty = Ty::Named(2);
+    const WORD: Ty = Ty::Named(3);
+
+    fn types(alloc: Global) -> Result<TypeTable, NoMemory> {
+        let mut table = TypeTable::new(alloc);
+        defined(alloc, &mut table, "Op", &[("Enq", &[Ty::Int]), ("Deq", &[])])?;
+        defined(alloc, &mut table, "List", &[("Nil", &[]), ("Cons", &[Ty::Int, LIST])])?;
+        defined(alloc, &mut table, "Pair", &[("Pair", &[Ty::Bool, Ty::Text])])?;
+        defined(alloc, &mut table, "Word", &[("Word", &[]), ("Words", &[Ty::Int])])?;
+        Ok(table)
+    }
+
+    #[test]
+    fn refuses(rt: HostRuntime) -> Result<(), Fail> {
+        let table = types(rt.alloc())?;
+        let past = "170141183460469231731687303715884105728";
+        let rows: &[(Ty, &str, ReadValueFault)] = &[
+            (OP, "Enq(1", ReadValueFault::WrongForm { at: 5 }),
+            (OP, "Deq(", ReadValueFault::WrongForm { at: 3 }),
+            (OP, "", ReadValueFault::WrongForm { at: 0 }),
+            (OP, "Enx(1)", ReadValueFault::WrongForm { at: 2 }),
+            (OP, "Deqs", ReadValueFault::WrongForm { at: 3 }),
+            (OP, " Enq ( 1 ) x", ReadValueFault::WrongForm { at: 11 }),
+            (OP, "Enq(-)", ReadValueFault::WrongForm { at: 5 }),
+            (OP, "Enq(1,2)", ReadValueFault::WrongForm { at: 5 }),
+            (OP, "True", ReadValueFault::WrongForm { at: 0 }),
+            (WORD, "Wor", ReadValueFault::WrongForm { at: 3 }),
+            (WORD, "Word(", ReadValueFault::WrongForm { at: 4 }),
+            (WORD, "Wordsx", ReadValueFault::WrongForm { at: 5 }),
+            (LIST, "Cons(1)", ReadValueFault::WrongForm { at: 6 }),
+            (LIST, "Nil()", ReadValueFault::WrongForm { at: 3 }),
+            (PAIR, "Pair(Tru", ReadValueFault::WrongForm { at: 8 }),
+            (PAIR, "Pair(true,", ReadValueFault::WrongForm { at: 5 }),
+            (PAIR, "Pair(True,\"\\x\")", ReadValueFault::WrongForm { at: 12 }),
+            (PAIR, "Pair(True,\"a\tb\")", ReadValueFault::WrongForm { at: 12 }),
+            (Ty::Bool, "Truer", ReadValueFault::WrongForm { at: 4 }),
+            (Ty::Bool, "Fals(", ReadValueFault::WrongForm { at: 4 }),
+            (Ty::Text, "\"a", ReadValueFault::WrongForm { at: 2 }),
+            (Ty::Text, "\"a\\", ReadValueFault::WrongForm { at: 3 }),
+            (Ty::Int, "- 7", ReadValueFault::WrongForm { at: 1 }),
+            (Ty::Int, "1\n", ReadValueFault::WrongForm { at: 1 }),
+            (Ty::Int, past, ReadValueFault::Range { at: 0 }),
+            (
+                Ty::Int,
+                " -170141183460469231731687303715884105729 x",
+                ReadValueFault::Range { at: 1 },
+            ),
+            (
+                LIST,
+                "Cons(1,Cons( 170141183460469231731687303715884105728,x",
+                ReadValueFault::Range { at: 13 },
+            ),
+        ];
+        for (ty, text, want) in rows {
+            let got = read_value(rt.alloc(), &table, *ty, text.as_bytes());
+            assert!(rt; matches!(&got, Err(fault) if *fault == *want), "at {text}");
+        }
+        let broken = read_value(rt.alloc(), &table, Ty::Text, b"\"\xff\"");
+        assert!(rt; matches!(&broken, Err(ReadValueFault::NotText)));
+        Ok(())
+    }
+}
