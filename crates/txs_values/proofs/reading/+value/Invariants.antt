@@ -15,8 +15,8 @@ decreases-arguments l = 4 * l.left + 3
 
 abbrev pub invariant-arguments-loop-fields_left : goal.invariant-arguments-loop-fields_left
 invariant-arguments-loop-fields_left l =
-    arguments_read (value_read l.fn.table.now l.fn.left) (map field_of l.fn.fields.now) l.fn.bytes.now
-    ≡ with_front (values_of l.values) (arguments_read (value_read l.fn.table.now l.fn.left) (map field_of l.fields_left) l.rest)
+    arguments_read (value_read l.fn.table l.fn.left) (map field_of l.fn.fields) l.fn.bytes
+    ≡ with_front (values_of l.values) (arguments_read (value_read l.fn.table l.fn.left) (map field_of l.fields_left) l.rest)
 
 abbrev pub decreases-arguments-loop-fields_left : goal.decreases-arguments-loop-fields_left
 decreases-arguments-loop-fields_left l = length l.fields_left
