@@ -155,6 +155,7 @@ fn is_raw(byte: u8) -> bool
 }
 
 /// A text up to its closing quote.
+#[tactic(auto, using(crate::proofs::ReadSteps::steps))]
 fn quoted(alloc: Global, bytes: &[u8]) -> Result<(Items<u8>, &[u8]), Stop>
     ensures { MatchResult result (λ p. spec.quoted_read false bytes.now ≡ ok p.0 p.1.now) (λ e. Stopped e (spec.quoted_read false bytes.now)) }
 {
@@ -194,6 +195,7 @@ fn text(alloc: Global, bytes: &[u8]) -> Result<(Value, &[u8]), Stop>
 }
 
 /// The constructor whose name stands first, by its number with its fields.
+#[tactic(auto, using(crate::proofs::ReadSteps::steps))]
 fn made<'t, 'a>(
     table: &'t TypeTable,
     ty: u32,
@@ -233,6 +235,7 @@ fn full(bytes: &[u8]) -> Stop
 
 /// A value, with so many levels below its own, and what follows it.
 #[cycle(value)]
+#[tactic(auto, using(crate::proofs::ReadSteps::steps))]
 fn value<'a>(
     alloc: Global,
     table: &TypeTable,
@@ -256,6 +259,7 @@ fn value<'a>(
 
 /// The fields of a constructor, behind its name.
 #[cycle(value)]
+#[tactic(auto, using(crate::proofs::ReadSteps::steps))]
 fn fields_behind<'a>(
     alloc: Global,
     table: &TypeTable,
@@ -288,6 +292,7 @@ fn fields_behind<'a>(
 
 /// The arguments of a constructor, and what follows their closing parenthesis.
 #[cycle(value)]
+#[tactic(auto, using(crate::proofs::ReadSteps::steps))]
 fn arguments<'a>(
     alloc: Global,
     table: &TypeTable,
