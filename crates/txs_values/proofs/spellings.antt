@@ -5,3 +5,4 @@ pub mod Sound
 pub mod Complete
 pub mod Written
 pub mod Found
+pub mod Tokens
