@@ -9,6 +9,10 @@ use Rattle.txs_values.specs.declared.reading.Kind.TheVariants.{Wrong, Broken}
 use Rattle.txs_values.specs.declared.reading.Stop.{Stop}
 use Rattle.txs_values.specs.declared.reading.Stop.TheVariants.{At, NoMemory}
 use Rattle.txs_values.specs.declared.table.ConsDef as rust_cons
+use Rattle.txs_values.specs.declared.value.Value.TheFolds.{fold-roll-Value}
+use Rattle.txs_values.specs.declared.value.Value.TheOpen.{Value-F}
+use Rattle.txs_values.specs.declared.value.Value.TheViews as views
+use Rattle.txs_values.specs.View.{value_step, value_of}
 use Rattle.txs_values.specs.declared.table.FieldDef as rust_field
 use Rattle.txs_values.specs.TableView.{field_of, cons_of, conses_of, first_of}
 use Rattle.txs_values.specs.Value.{Ty, Value, text, cons, no_value, packed, Constructor, Table}
@@ -21,9 +25,9 @@ same_some e = cc
 
 -- ---- values
 
-pub value_of-cons : (id : ℕ) (fields : List rust.Value) → value_of (views.Cons id fields) ≡ cons id (packed (values_of fields))
-unfolding value_of
-value_of-cons id fields = fold-roll-Value Value value_step (Value-F.Cons id fields)
+pub value_of-text : (t : List ℕ) → value_of (views.Text t) ≡ text t
+unfolding views.roll-Value denote.Hole.Carrier.roll
+value_of-text t = fold-roll-Value Value value_step (Value-F.Text t)
 
 -- ---- lists
 

@@ -1,4 +1,4 @@
-use Rattle.std.proofs.Common.{◌≡◌, ◌+◌, ◌≤◌, min, max, drop}
+use Rattle.std.proofs.Common.{◌≡◌, min, max, drop}
 use Rattle.txs_values.specs.Measure.{u64_max}
 use Rattle.txs_values.specs.Value.{heights, packed}
 use Rattle.txs_values.specs.View.{values_of}

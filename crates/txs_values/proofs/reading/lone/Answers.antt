@@ -1,6 +1,6 @@
 use Rattle.std.proofs.Common.{◌≡◌, ◌∙◌, ℕ, List, [], length, rules}
 use Rattle.std.proofs.lemmas.Result.{err_from_is_err_and}
-use Rattle.txs_values.proofs.ReadSteps.{lone-stopped, lone-ended, ended-wrong, ended-ok}
+use Rattle.txs_values.proofs.ReadSteps.{lone-stopped, lone-ended, ended-wrong, ended-ok, none-left}
 use Rattle.txs_values.specs.View.{value_of, ty_of}
 use Rattle.txs_values.proofs.reading.lone.Goals as goal
 
@@ -19,4 +19,4 @@ pub returns : goal.returns
 returns c =
     let left : List ℕ = c.skip_blanks-rest.result.now in
     lone-ended c.args.table.now (ty_of c.args.ty) c.args.bytes.now (value_of c.in_ok-value.value) c.in_ok-value.behind.now left c.in_ok-value.ensures c.skip_blanks-rest.ensures
-    ∙ ended-ok (value_of c.in_ok-value.value) left (search rules)
+    ∙ ended-ok (value_of c.in_ok-value.value) left (none-left left (search rules))
