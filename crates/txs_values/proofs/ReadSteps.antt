@@ -1,5 +1,5 @@
 -- The steps of the program's reader.
-use Rattle.std.proofs.Common.{◌≡◌, ◌≤◌, ◌<◌, ℕ, zero, suc, ◌+◌, ◌-◌, Bool, true, false, cond, eqb, eqb-true, get_or, min, List, [], ◌∷◌, ◌++◌, length, map, drop, Option, Some, None, refl, sym, ap, subst, ◌∙◌, append_assoc, arith}
+use Rattle.std.proofs.Common.{◌≡◌, ◌≤◌, ◌<◌, ℕ, zero, suc, ◌+◌, ◌-◌, Bool, true, false, cond, eqb, eqb-true, get_or, take, min, List, [], ◌∷◌, ◌++◌, length, map, drop, Option, Some, None, refl, sym, ap, subst, ◌∙◌, append_assoc, arith}
 use Rattle.std.proofs.lemmas.Str.{is_utf8-from_IsUtf8, IsUtf8-from_is_utf8}
 use Rattle.std.specs.Str.{is_utf8, IsUtf8}
 use Rattle.std.specs.Prelude.{slice_get, option_map}
@@ -11,7 +11,7 @@ use Rattle.txs_values.specs.declared.reading.Stop.TheVariants.{At, NoMemory}
 use Rattle.txs_values.specs.declared.table.ConsDef as rust_cons
 use Rattle.txs_values.specs.declared.value.Value.TheFolds.{fold-roll-Value}
 use Rattle.txs_values.specs.declared.value.Value.TheOpen.{Value-F}
-use Rattle.txs_values.specs.declared.value.Value.TheViews as views
+use Rattle.txs_values.specs.declared.value.Value.TheVariants as variants
 use Rattle.txs_values.specs.View.{value_step, value_of}
 use Rattle.txs_values.specs.declared.table.FieldDef as rust_field
 use Rattle.txs_values.specs.TableView.{field_of, cons_of, conses_of, first_of}
@@ -25,15 +25,21 @@ same_some e = cc
 
 -- ---- values
 
-pub value_of-text : (t : List ℕ) → value_of (views.Text t) ≡ text t
-unfolding views.roll-Value denote.Hole.Carrier.roll
+pub value_of-text : (t : List ℕ) → value_of (variants.Text t) ≡ text t
+unfolding Rattle.txs_values.specs.declared.value.Value.TheViews.roll-Value denote.Hole.Carrier.roll
 value_of-text t = fold-roll-Value Value value_step (Value-F.Text t)
 
 -- ---- lists
 
-pub first-rest : (bs : List ℕ) → 1 ≤ length bs → bs ≡ get_or bs 0 0 ∷ drop 1 bs
+take-whole : (bs : List ℕ) → take (length bs) bs ≡ bs
+take-whole [] = refl
+take-whole (b ∷ bs) = ap (λ (l : List ℕ). b ∷ l) (take-whole bs)
+
+pub first-rest : (bs : List ℕ) → 1 ≤ length bs → bs ≡ get_or bs 0 0 ∷ take (length bs - 1) (drop 1 bs)
 first-rest [] l = absurd (omega (arith, l))
-first-rest (b ∷ bs) l = refl
+first-rest (b ∷ bs) l =
+    let e : length bs ≡ length (b ∷ bs) - 1 = omega arith in
+    ap (λ (l : List ℕ). b ∷ l) (sym (take-whole bs) ∙ ap (λ n. take n bs) e)
 
 pub none-left : (bs : List ℕ) → length bs ≡ 0 → bs ≡ []
 none-left [] e = refl
@@ -162,7 +168,7 @@ Within n (stop k m) = m ≤ n
 name-within : (x bs : List ℕ) → Within (length bs) (name_read x bs)
 name-within [] bs = by (goes_on bs)
   where
-    by : (t : Bool) → Within (length bs) (cond t (stop Wrong (length bs)) (ok tt bs))
+    by : (t : Bool) → Within (length bs) (cond t (stop Wrong (length bs)) (ok (tt {0}) bs))
     by true = omega arith
     by false = omega arith
 name-within (x ∷ xs) [] = omega arith

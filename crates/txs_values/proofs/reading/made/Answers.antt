@@ -44,7 +44,7 @@ returns c = elim c.match-constructors.branch [
       let v = w.loop-constructor.invariant in
       let t = w.loop-constructor-test.false in
       made-end (made_read 0 c.args.table.now c.args.ty bs) w.loop-constructor.left w.loop-constructor.id (drop w.loop-constructor.constructor-index w.in-Some.constructors.now) bs v.tried
-      (drop_all w.in-Some.constructors.now w.loop-constructor.constructor-index (omega (arith, t))) v.within
+      (drop_all w.loop-constructor.constructor-index w.in-Some.constructors.now (omega (arith, t))) v.within
       ∙ ap (stop Wrong) (sym w.left-is)
   )
   | in_default w ↦ made_read-none 0 c.args.table.now c.args.ty c.args.bytes.now w.in_default.ensures.constructors ∙ ap (stop Wrong) (sym w.left-is)
