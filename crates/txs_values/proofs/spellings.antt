@@ -6,3 +6,5 @@ pub mod Complete
 pub mod Written
 pub mod Found
 pub mod Tokens
+pub mod Names
+pub mod Starts

@@ -1,5 +1,7 @@
 -- Why bytes are not read as a value of a type, and where.
-use Rattle.std.specs.Prelude.{◌≡◌, ◌≢◌, ◌≤◌, ◌<◌, ℕ, suc, false, List, [], ◌∷◌, ◌++◌, length, Some}
+use Rattle.std.specs.Prelude.{◌≡◌, ◌≢◌, ◌≤◌, ◌<◌, ℕ, suc, false, List, [], ◌∷◌, ◌++◌, length, Some, IsUtf8}
+use Rattle.txs_values.specs.declared.refusal.ReadValueFault.{ReadValueFault}
+use Rattle.txs_values.specs.declared.refusal.ReadValueFault.TheVariants.{NotText, WrongForm, Range, TooDeep, TooBig, NoMemory}
 use Rattle.std.specs.Str.Parse.{signed_digits_value}
 use Rattle.txs_values.specs.Value.{Ty, Value, Field, Table, place_of, field_types, fits, size, value_size_limit, value_height_limit, HasType, whole, named}
 use Rattle.txs_values.specs.Spelled.{AreBlanks, AreDigits, IsSign, Spells, IsSpelling, IsNamed}
@@ -111,3 +113,12 @@ pub record IsTooBig (table : Table) (t : Ty) (bs : List ℕ) : Type 0 where
   pub spelled : IsSpelling table t value bs
   pub sound : (reason : Reason) (n : ℕ) → IsCause table t bs reason n → ⊥
   pub big : value_size_limit < size value
+
+-- the cause of each fault; want of memory needs none
+abbrev pub Refuses : Table → Ty → List ℕ → ReadValueFault → Type 0
+Refuses table t bs NotText = IsUtf8 bs → ⊥
+Refuses table t bs (WrongForm n) = IsUtf8 bs × IsFirst table t bs wrong_form n
+Refuses table t bs (Range n) = IsUtf8 bs × IsFirst table t bs past_range n
+Refuses table t bs (TooDeep n) = IsUtf8 bs × IsFirst table t bs too_deep n
+Refuses table t bs TooBig = IsUtf8 bs × IsTooBig table t bs
+Refuses table t bs NoMemory = Unit {0}

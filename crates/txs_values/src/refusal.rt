@@ -1,5 +1,15 @@
+ghost use Rattle.std.specs.Prelude.{◌≡◌, ◌≢◌, ◌↔◌, ◌⊎◌, IsUtf8, MatchResult};
+ghost use Rattle.txs_values.specs.declared.reading.Kind.TheVariants.{Wrong, Past, Deep, Broken};
+ghost use Rattle.txs_values.specs.declared.refusal.ReadValueFault.{ReadValueFault as Fault};
+ghost use Rattle.txs_values.specs.declared.refusal.ReadValueFault.TheVariants.{NotText, NoMemory};
+ghost use Rattle.txs_values.specs.Faults.{IsReadable, Refuses};
+ghost use Rattle.txs_values.specs.ReadingView.{fault_of};
+ghost use Rattle.txs_values.specs.Spelled.{IsSpelling, IsNamed, IsAllowed};
+ghost use Rattle.txs_values.specs.Value as value;
+ghost use Rattle.txs_values.specs.View.{value_of, ty_of};
+
 use crate::reading::{Kind, Stop, lone};
-use crate::{Ty, TypeTable, Value};
+use crate::{Ty, TypeTable, Value, size_of};
 use std::alloc::Global;
 use thiserror::Error;
 
@@ -28,23 +38,37 @@ pub fn read_value(
     table: &TypeTable,
     ty: Ty,
     bytes: &[u8],
-) -> Result<Value, ReadValueFault> {
+) -> Result<Value, ReadValueFault>
+    ensures exact { IsNamed table.now → MatchResult result
+        (λ v. IsUtf8 bytes.now × IsSpelling table.now (ty_of ty) (value_of v) bytes.now × IsAllowed table.now (ty_of ty) (value_of v))
+        (λ f. (f ≡ NoMemory) ⊎ ((v : value.Value) → IsUtf8 bytes.now → IsSpelling table.now (ty_of ty) v bytes.now → IsAllowed table.now (ty_of ty) v → ⊥)) }
+    ensures not_text { (result ≡ Err NotText) ↔ (IsUtf8 bytes.now → ⊥) }
+    ensures refused { IsReadable table.now (ty_of ty) → result ≢ Err NoMemory → (f : Fault) → f ≢ NoMemory → (result ≡ Err f) ↔ Refuses table.now (ty_of ty) bytes.now f }
+{
     if std::str::from_utf8(bytes).is_err() {
         return Err(ReadValueFault::NotText);
     }
     match lone(alloc, table, ty, bytes) {
-        Ok(value) => Ok(value),
+        Ok(value) => {
+            if size_of(&value) > VALUE_SIZE_LIMIT {
+                return Err(ReadValueFault::TooBig);
+            }
+            Ok(value)
+        }
         Err(Stop::NoMemory) => Err(ReadValueFault::NoMemory),
-        Err(Stop::At(kind, left)) => Err(fault(kind, bytes.len().saturating_sub(left))),
+        Err(Stop::At(kind, left)) => Err(fault(kind, bytes.len() - left)),
     }
 }
 
-fn fault(kind: Kind, at: usize) -> ReadValueFault {
+fn fault(kind: Kind, at: usize) -> ReadValueFault
+    requires { kind ≢ Broken }
+    ensures { result ≡ fault_of kind at }
+{
     match kind {
         Kind::Wrong => ReadValueFault::WrongForm { at },
         Kind::Past => ReadValueFault::Range { at },
         Kind::Deep => ReadValueFault::TooDeep { at },
-        Kind::Broken => ReadValueFault::NotText,
+        Kind::Broken => unreachable!(),
     }
 }
 

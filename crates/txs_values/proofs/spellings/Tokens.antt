@@ -15,14 +15,14 @@ use Rattle.txs_values.proofs.spellings.Found.{head, Got, Left, Found, Sound, hea
 
 -- ---- a symbol
 
-pub sound_symbol_here : (c : ℕ) (H : Kind → List ℕ → List ℕ → Type 0) → ((r : List ℕ) → H Wrong [] r) → Sound (symbol_here c) (λ _ u. u ≡ c ∷ []) H
-sound_symbol_here c H h [] = found-wrong (symbol_here c) (λ _ u. u ≡ c ∷ []) H [] 0 refl (h []) (λ w e. ap (symbol_here c) (head-none w e) ∙ ap (λ (l : List ℕ). stop Wrong (length l)) (sym (head-none w e)))
-sound_symbol_here c H h (b ∷ bs) = by (eqb b c) refl
+pub sound_symbol_here : (N : Type 0) → (c : ℕ) (H : Kind → List ℕ → List ℕ → Type 0) → ((r : List ℕ) → H Wrong [] r) → Sound N (symbol_here c) (λ _ u. u ≡ c ∷ []) H
+sound_symbol_here N c H h [] = found-wrong N (symbol_here c) (λ _ u. u ≡ c ∷ []) H [] 0 refl (h []) (λ w e. ap (symbol_here c) (head-none w e) ∙ ap (λ (l : List ℕ). stop Wrong (length l)) (sym (head-none w e)))
+sound_symbol_here N c H h (b ∷ bs) = by (eqb b c) refl
   where
-    by : (t : Bool) → eqb b c ≡ t → Found (symbol_here c) (λ _ u. u ≡ c ∷ []) H (b ∷ bs) (cond t (ok tt bs) (stop Wrong (length (b ∷ bs))))
+    by : (t : Bool) → eqb b c ≡ t → Found N (symbol_here c) (λ _ u. u ≡ c ∷ []) H (b ∷ bs) (cond t (ok tt bs) (stop Wrong (length (b ∷ bs))))
     by true e =
-        record { used = b ∷ []; whole = refl; spelled = ap (λ (x : ℕ). x ∷ []) (eqb-true b c e); local = λ w k. cond-true (eqb b c) (ok tt w) (stop Wrong (length (b ∷ w))) e }
-    by false e = found-wrong (symbol_here c) (λ _ u. u ≡ c ∷ []) H (b ∷ bs) (length (b ∷ bs)) refl (h (b ∷ bs)) (λ w k. other w (head-some w b k))
+        record { used = b ∷ []; whole = refl; spelled = ap (λ (x : ℕ). x ∷ []) (eqb-true b c e); local = λ _ w k. cond-true (eqb b c) (ok tt w) (stop Wrong (length (b ∷ w))) e }
+    by false e = found-wrong N (symbol_here c) (λ _ u. u ≡ c ∷ []) H (b ∷ bs) (length (b ∷ bs)) refl (h (b ∷ bs)) (λ w k. other w (head-some w b k))
       where
         other : (w : List ℕ) → ((v : List ℕ) × (w ≡ b ∷ v)) → symbol_here c w ≡ stop Wrong (length w)
         other w p = subst (λ l. symbol_here c l ≡ stop Wrong (length l)) (sym p.1) (cond-false (eqb b c) (ok tt p.0) (stop Wrong (length (b ∷ p.0))) e)
@@ -138,9 +138,9 @@ number-with : (bs w : List ℕ) → Again (number_run bs) w → number_read (num
 number-with bs w p =
     ap (λ run. number_by (number_run bs ++ w) run (past_number (number_run bs ++ w))) p.0 ∙ ap (λ past. number_by (number_run bs ++ w) (number_run bs) past) p.1
 
-module _ (H : Kind → List ℕ → List ℕ → Type 0) (wrong : (u r : List ℕ) → IsSign u → H Wrong u r) (past : (r : List ℕ) → IsPastHere r → H Past [] r) (bs : List ℕ) where
+module _ (N : Type 0) (H : Kind → List ℕ → List ℕ → Type 0) (wrong : (u r : List ℕ) → IsSign u → H Wrong u r) (past : (r : List ℕ) → IsPastHere r → H Past [] r) (bs : List ℕ) where
   number_range : (t : Bool) → fits (signed_digits_value 10 (number_run bs)) ≡ t → has_digit (number_run bs) ≡ true → Shape true (number_run bs)
-      → Found number_read IsWhole H bs (cond t (ok (num (signed_digits_value 10 (number_run bs))) (past_number bs)) (stop Past (length bs)))
+      → Found N number_read IsWhole H bs (cond t (ok (num (signed_digits_value 10 (number_run bs))) (past_number bs)) (stop Past (length bs)))
   number_range true e d s = record {
     used = number_run bs;
     whole = number_run-parts bs;
@@ -154,7 +154,7 @@ module _ (H : Kind → List ℕ → List ℕ → Type 0) (wrong : (u r : List �
       parts = s.5;
       in_range = subst (λ run. fits (signed_digits_value 10 run) ≡ true) s.5 e;
     };
-    local = λ w h.
+    local = λ _ w h.
         number-with bs w (number-again bs w h)
         ∙ cond-true (has_digit (number_run bs)) (cond (fits (signed_digits_value 10 (number_run bs))) (ok (num (signed_digits_value 10 (number_run bs))) w) (stop Past (length (number_run bs ++ w)))) (stop Wrong (length w)) d
         ∙ cond-true (fits (signed_digits_value 10 (number_run bs))) (ok (num (signed_digits_value 10 (number_run bs))) w) (stop Past (length (number_run bs ++ w))) e;
@@ -174,11 +174,11 @@ module _ (H : Kind → List ℕ → List ℕ → Type 0) (wrong : (u r : List �
       is_past = subst (λ run. fits (signed_digits_value 10 run) ≡ false) s.5 e;
       here = number_run-parts bs ∙ ap (λ run. run ++ past_number bs) s.5;
     });
-    local = λ k w h. absurd (cc);
+    local = λ _ k w h. absurd (cc);
   }
 
   number_found : (t : Bool) → has_digit (number_run bs) ≡ t
-      → Found number_read IsWhole H bs (cond t (cond (fits (signed_digits_value 10 (number_run bs))) (ok (num (signed_digits_value 10 (number_run bs))) (past_number bs)) (stop Past (length bs))) (stop Wrong (length (past_number bs))))
+      → Found N number_read IsWhole H bs (cond t (cond (fits (signed_digits_value 10 (number_run bs))) (ok (num (signed_digits_value 10 (number_run bs))) (past_number bs)) (stop Past (length bs))) (stop Wrong (length (past_number bs))))
   number_found true e = number_range (fits (signed_digits_value 10 (number_run bs))) refl e (run-shape bs true e)
   number_found false e = record {
     used = number_run bs;
@@ -186,13 +186,13 @@ module _ (H : Kind → List ℕ → List ℕ → Type 0) (wrong : (u r : List �
     whole = number_run-parts bs;
     count = refl;
     here = wrong (number_run bs) (past_number bs) (run-shape bs false e);
-    local = λ k w h.
+    local = λ _ k w h.
         number-with bs w (number-again bs w h)
         ∙ cond-false (has_digit (number_run bs)) (cond (fits (signed_digits_value 10 (number_run bs))) (ok (num (signed_digits_value 10 (number_run bs))) w) (stop Past (length (number_run bs ++ w)))) (stop Wrong (length w)) e;
   }
 
-pub sound_number : (H : Kind → List ℕ → List ℕ → Type 0) → ((u r : List ℕ) → IsSign u → H Wrong u r) → ((r : List ℕ) → IsPastHere r → H Past [] r) → Sound number_read IsWhole H
-sound_number H wrong past bs = number_found H wrong past bs (has_digit (number_run bs)) refl
+pub sound_number : (N : Type 0) → (H : Kind → List ℕ → List ℕ → Type 0) → ((u r : List ℕ) → IsSign u → H Wrong u r) → ((r : List ℕ) → IsPastHere r → H Past [] r) → Sound N number_read IsWhole H
+sound_number N H wrong past bs = number_found N H wrong past bs (has_digit (number_run bs)) refl
 
 -- ---- a name
 
@@ -200,8 +200,8 @@ sound_number H wrong past bs = number_found H wrong past bs (has_digit (number_r
 abbrev pub BeginsName : List ℕ → Kind → List ℕ → List ℕ → Type 0
 BeginsName x k u r = (k ≡ Wrong) × (y : List ℕ) × (x ≡ u ++ y)
 
-pub sound_name : (x : List ℕ) → Sound (name_read x) (λ _ u. u ≡ x) (BeginsName x)
-sound_name [] bs = by (goes_on bs) refl
+pub sound_name : (N : Type 0) → (x : List ℕ) → Sound N (name_read x) (λ _ u. u ≡ x) (BeginsName x)
+sound_name N [] bs = by (goes_on bs) refl
   where
     same : (w : List ℕ) → head w ≡ head bs → goes_on w ≡ goes_on bs
     same [] h = other bs h
@@ -214,22 +214,22 @@ sound_name [] bs = by (goes_on bs) refl
         other : (l : List ℕ) → Some c ≡ head l → is_name_byte c ≡ goes_on l
         other [] e = absurd (cc)
         other (b ∷ l) e = let k : c ≡ b = cc in ap is_name_byte k
-    by : (t : Bool) → goes_on bs ≡ t → Found (name_read []) (λ _ u. u ≡ []) (BeginsName []) bs (cond t (stop Wrong (length bs)) (ok tt bs))
-    by true e = found-wrong (name_read []) (λ _ u. u ≡ []) (BeginsName []) bs (length bs) refl (refl, [], refl) (λ w h. cond-true (goes_on w) (stop Wrong (length w)) (ok tt w) (same w h ∙ e))
-    by false e = found-ok (name_read []) (λ _ u. u ≡ []) (BeginsName []) bs tt refl (λ w h. cond-false (goes_on w) (stop Wrong (length w)) (ok tt w) (same w h ∙ e))
-sound_name (x ∷ xs) [] =
-    found-wrong (name_read (x ∷ xs)) (λ _ u. u ≡ x ∷ xs) (BeginsName (x ∷ xs)) [] 0 refl (refl, x ∷ xs, refl) (λ w h. ap (name_read (x ∷ xs)) (head-none w h) ∙ ap (λ (l : List ℕ). stop Wrong (length l)) (sym (head-none w h)))
-sound_name (x ∷ xs) (b ∷ bs) = by (eqb b x) refl (sound_name xs bs)
+    by : (t : Bool) → goes_on bs ≡ t → Found N (name_read []) (λ _ u. u ≡ []) (BeginsName []) bs (cond t (stop Wrong (length bs)) (ok tt bs))
+    by true e = found-wrong N (name_read []) (λ _ u. u ≡ []) (BeginsName []) bs (length bs) refl (refl, [], refl) (λ w h. cond-true (goes_on w) (stop Wrong (length w)) (ok tt w) (same w h ∙ e))
+    by false e = found-ok N (name_read []) (λ _ u. u ≡ []) (BeginsName []) bs tt refl (λ w h. cond-false (goes_on w) (stop Wrong (length w)) (ok tt w) (same w h ∙ e))
+sound_name N (x ∷ xs) [] =
+    found-wrong N (name_read (x ∷ xs)) (λ _ u. u ≡ x ∷ xs) (BeginsName (x ∷ xs)) [] 0 refl (refl, x ∷ xs, refl) (λ w h. ap (name_read (x ∷ xs)) (head-none w h) ∙ ap (λ (l : List ℕ). stop Wrong (length l)) (sym (head-none w h)))
+sound_name N (x ∷ xs) (b ∷ bs) = by (eqb b x) refl (sound_name N xs bs)
   where
-    by : (t : Bool) → eqb b x ≡ t → Found (name_read xs) (λ _ u. u ≡ xs) (BeginsName xs) bs (name_read xs bs)
-        → Found (name_read (x ∷ xs)) (λ _ u. u ≡ x ∷ xs) (BeginsName (x ∷ xs)) (b ∷ bs) (cond t (name_read xs bs) (stop Wrong (length (b ∷ bs))))
+    by : (t : Bool) → eqb b x ≡ t → Found N (name_read xs) (λ _ u. u ≡ xs) (BeginsName xs) bs (name_read xs bs)
+        → Found N (name_read (x ∷ xs)) (λ _ u. u ≡ x ∷ xs) (BeginsName (x ∷ xs)) (b ∷ bs) (cond t (name_read xs bs) (stop Wrong (length (b ∷ bs))))
     by true e ih =
         let k = eqb-true b x e in
-        found-taken (name_read (x ∷ xs)) (name_read xs) (λ _ u. u ≡ x ∷ xs) (BeginsName (x ∷ xs)) b
+        found-taken N (name_read (x ∷ xs)) (name_read xs) (λ _ u. u ≡ x ∷ xs) (BeginsName (x ∷ xs)) b
         (λ w. cond-true (eqb b x) (name_read xs w) (stop Wrong (length (b ∷ w))) e) bs (name_read xs bs)
-        (found-map (name_read xs) (λ _ u. u ≡ xs) (λ _ u. b ∷ u ≡ x ∷ xs) (BeginsName xs) (λ j v r. BeginsName (x ∷ xs) j (b ∷ v) r)
+        (found-map N (name_read xs) (λ _ u. u ≡ xs) (λ _ u. b ∷ u ≡ x ∷ xs) (BeginsName xs) (λ j v r. BeginsName (x ∷ xs) j (b ∷ v) r)
         (λ _ u s. ap (λ (l : List ℕ). b ∷ l) s ∙ ap (λ (c : ℕ). c ∷ xs) k) (λ j v r p. (p.0, p.1, ap (λ (l : List ℕ). x ∷ l) p.2 ∙ ap (λ (c : ℕ). c ∷ (v ++ p.1)) (sym k))) bs (name_read xs bs) ih)
-    by false e ih = found-wrong (name_read (x ∷ xs)) (λ _ u. u ≡ x ∷ xs) (BeginsName (x ∷ xs)) (b ∷ bs) (length (b ∷ bs)) refl (refl, x ∷ xs, refl) (λ w k. other w (head-some w b k))
+    by false e ih = found-wrong N (name_read (x ∷ xs)) (λ _ u. u ≡ x ∷ xs) (BeginsName (x ∷ xs)) (b ∷ bs) (length (b ∷ bs)) refl (refl, x ∷ xs, refl) (λ w k. other w (head-some w b k))
       where
         other : (w : List ℕ) → ((v : List ℕ) × (w ≡ b ∷ v)) → name_read (x ∷ xs) w ≡ stop Wrong (length w)
         other w p = subst (λ l. name_read (x ∷ xs) l ≡ stop Wrong (length l)) (sym p.1) (cond-false (eqb b x) (name_read xs p.0) (stop Wrong (length (b ∷ p.0))) e)
@@ -253,47 +253,47 @@ QuotedBy esc a u = (ws : List ℕ) × (u ≡ ws ++ 34 ∷ []) × Quotes a (Befor
 abbrev BeginsQuoted : Bool → Kind → List ℕ → List ℕ → Type 0
 BeginsQuoted esc k u r = (k ≡ Wrong) × (a : List ℕ) × (more : List ℕ) × Quotes a (Before esc (u ++ more))
 
-pub sound_quoted : (esc : Bool) → Sound (quoted_read esc) (QuotedBy esc) (BeginsQuoted esc)
-sound_quoted true [] =
-    found-wrong (quoted_read true) (QuotedBy true) (BeginsQuoted true) [] 0 refl (refl, 34 ∷ [], 34 ∷ [], escaped_by 34 34 refl nothing) (λ w h. ap (quoted_read true) (head-none w h) ∙ ap (λ (l : List ℕ). stop Wrong (length l)) (sym (head-none w h)))
-sound_quoted false [] =
-    found-wrong (quoted_read false) (QuotedBy false) (BeginsQuoted false) [] 0 refl (refl, [], [], nothing) (λ w h. ap (quoted_read false) (head-none w h) ∙ ap (λ (l : List ℕ). stop Wrong (length l)) (sym (head-none w h)))
-sound_quoted true (b ∷ bs) = by (escape_of b) refl (sound_quoted false bs)
+pub sound_quoted : (N : Type 0) → (esc : Bool) → Sound N (quoted_read esc) (QuotedBy esc) (BeginsQuoted esc)
+sound_quoted N true [] =
+    found-wrong N (quoted_read true) (QuotedBy true) (BeginsQuoted true) [] 0 refl (refl, 34 ∷ [], 34 ∷ [], escaped_by 34 34 refl nothing) (λ w h. ap (quoted_read true) (head-none w h) ∙ ap (λ (l : List ℕ). stop Wrong (length l)) (sym (head-none w h)))
+sound_quoted N false [] =
+    found-wrong N (quoted_read false) (QuotedBy false) (BeginsQuoted false) [] 0 refl (refl, [], [], nothing) (λ w h. ap (quoted_read false) (head-none w h) ∙ ap (λ (l : List ℕ). stop Wrong (length l)) (sym (head-none w h)))
+sound_quoted N true (b ∷ bs) = by (escape_of b) refl (sound_quoted N false bs)
   where
-    by : (o : Option ℕ) → escape_of b ≡ o → Found (quoted_read false) (QuotedBy false) (BeginsQuoted false) bs (quoted_read false bs)
-        → Found (quoted_read true) (QuotedBy true) (BeginsQuoted true) (b ∷ bs) (escape_read o (length (b ∷ bs)) (quoted_read false bs))
-    by None e ih = found-wrong (quoted_read true) (QuotedBy true) (BeginsQuoted true) (b ∷ bs) (length (b ∷ bs)) refl (refl, 34 ∷ [], 34 ∷ [], escaped_by 34 34 refl nothing) (λ w k. other w (head-some w b k))
+    by : (o : Option ℕ) → escape_of b ≡ o → Found N (quoted_read false) (QuotedBy false) (BeginsQuoted false) bs (quoted_read false bs)
+        → Found N (quoted_read true) (QuotedBy true) (BeginsQuoted true) (b ∷ bs) (escape_read o (length (b ∷ bs)) (quoted_read false bs))
+    by None e ih = found-wrong N (quoted_read true) (QuotedBy true) (BeginsQuoted true) (b ∷ bs) (length (b ∷ bs)) refl (refl, 34 ∷ [], 34 ∷ [], escaped_by 34 34 refl nothing) (λ w k. other w (head-some w b k))
       where
         other : (w : List ℕ) → ((v : List ℕ) × (w ≡ b ∷ v)) → quoted_read true w ≡ stop Wrong (length w)
         other w p = subst (λ l. quoted_read true l ≡ stop Wrong (length l)) (sym p.1) (ap (λ o. escape_read o (length (b ∷ p.0)) (quoted_read false p.0)) e)
     by (Some d) e ih =
-        found-taken (quoted_read true) (λ w. with_front (d ∷ []) (quoted_read false w)) (QuotedBy true) (BeginsQuoted true) b
+        found-taken N (quoted_read true) (λ w. with_front (d ∷ []) (quoted_read false w)) (QuotedBy true) (BeginsQuoted true) b
         (λ w. ap (λ o. escape_read o (length (b ∷ w)) (quoted_read false w)) e) bs (with_front (d ∷ []) (quoted_read false bs))
-        (front-found (d ∷ []) (quoted_read false) (λ a v. QuotedBy true a (b ∷ v)) (λ k v r. BeginsQuoted true k (b ∷ v) r) bs (quoted_read false bs)
-        (found-map (quoted_read false) (QuotedBy false) (λ a v. QuotedBy true (d ∷ a) (b ∷ v)) (BeginsQuoted false) (λ k v r. BeginsQuoted true k (b ∷ v) r)
+        (front-found N (d ∷ []) (quoted_read false) (λ a v. QuotedBy true a (b ∷ v)) (λ k v r. BeginsQuoted true k (b ∷ v) r) bs (quoted_read false bs)
+        (found-map N (quoted_read false) (QuotedBy false) (λ a v. QuotedBy true (d ∷ a) (b ∷ v)) (BeginsQuoted false) (λ k v r. BeginsQuoted true k (b ∷ v) r)
         (λ a v s. (b ∷ s.0, ap (λ (l : List ℕ). b ∷ l) s.1, escaped_by d b e s.2)) (λ k v r s. (s.0, d ∷ s.1, s.2, escaped_by d b e s.3)) bs (quoted_read false bs) ih))
-sound_quoted false (b ∷ bs) = by (eqb b 34) (eqb b 92) (is_raw b) refl refl refl (sound_quoted true bs) (sound_quoted false bs)
+sound_quoted N false (b ∷ bs) = by (eqb b 34) (eqb b 92) (is_raw b) refl refl refl (sound_quoted N true bs) (sound_quoted N false bs)
   where
-    by : (t u v : Bool) → eqb b 34 ≡ t → eqb b 92 ≡ u → is_raw b ≡ v → Found (quoted_read true) (QuotedBy true) (BeginsQuoted true) bs (quoted_read true bs)
-        → Found (quoted_read false) (QuotedBy false) (BeginsQuoted false) bs (quoted_read false bs)
-        → Found (quoted_read false) (QuotedBy false) (BeginsQuoted false) (b ∷ bs)
+    by : (t u v : Bool) → eqb b 34 ≡ t → eqb b 92 ≡ u → is_raw b ≡ v → Found N (quoted_read true) (QuotedBy true) (BeginsQuoted true) bs (quoted_read true bs)
+        → Found N (quoted_read false) (QuotedBy false) (BeginsQuoted false) bs (quoted_read false bs)
+        → Found N (quoted_read false) (QuotedBy false) (BeginsQuoted false) (b ∷ bs)
         (cond t (ok [] bs) (cond u (quoted_read true bs) (cond v (stop Wrong (length (b ∷ bs))) (with_front (b ∷ []) (quoted_read false bs)))))
     by true u v x y z it il = record {
       used = b ∷ [];
       whole = refl;
       spelled = ([], ap (λ (c : ℕ). c ∷ []) (eqb-true b 34 x), nothing);
-      local = λ w h. cond-true (eqb b 34) (ok [] w) (cond (eqb b 92) (quoted_read true w) (cond (is_raw b) (stop Wrong (length (b ∷ w))) (with_front (b ∷ []) (quoted_read false w)))) x;
+      local = λ _ w h. cond-true (eqb b 34) (ok [] w) (cond (eqb b 92) (quoted_read true w) (cond (is_raw b) (stop Wrong (length (b ∷ w))) (with_front (b ∷ []) (quoted_read false w)))) x;
     }
     by false true v x y z it il =
         let k = eqb-true b 92 y in
-        found-taken (quoted_read false) (quoted_read true) (QuotedBy false) (BeginsQuoted false) b
+        found-taken N (quoted_read false) (quoted_read true) (QuotedBy false) (BeginsQuoted false) b
         (λ w. cond-false (eqb b 34) (ok [] w) (cond (eqb b 92) (quoted_read true w) (cond (is_raw b) (stop Wrong (length (b ∷ w))) (with_front (b ∷ []) (quoted_read false w)))) x
         ∙ cond-true (eqb b 92) (quoted_read true w) (cond (is_raw b) (stop Wrong (length (b ∷ w))) (with_front (b ∷ []) (quoted_read false w))) y) bs (quoted_read true bs)
-        (found-map (quoted_read true) (QuotedBy true) (λ a v. QuotedBy false a (b ∷ v)) (BeginsQuoted true) (λ k v r. BeginsQuoted false k (b ∷ v) r)
+        (found-map N (quoted_read true) (QuotedBy true) (λ a v. QuotedBy false a (b ∷ v)) (BeginsQuoted true) (λ k v r. BeginsQuoted false k (b ∷ v) r)
         (λ a v s. (b ∷ s.0, ap (λ (l : List ℕ). b ∷ l) s.1, subst (λ (c : ℕ). Quotes a (c ∷ s.0)) (sym k) s.2))
         (λ j v r s. (s.0, s.1, s.2, subst (λ (c : ℕ). Quotes s.1 (c ∷ (v ++ s.2))) (sym k) s.3)) bs (quoted_read true bs) it)
     by false false true x y z it il =
-        found-wrong (quoted_read false) (QuotedBy false) (BeginsQuoted false) (b ∷ bs) (length (b ∷ bs)) refl (refl, [], [], nothing) (λ w k. other w (head-some w b k))
+        found-wrong N (quoted_read false) (QuotedBy false) (BeginsQuoted false) (b ∷ bs) (length (b ∷ bs)) refl (refl, [], [], nothing) (λ w k. other w (head-some w b k))
       where
         other : (w : List ℕ) → ((v : List ℕ) × (w ≡ b ∷ v)) → quoted_read false w ≡ stop Wrong (length w)
         other w p =
@@ -302,12 +302,12 @@ sound_quoted false (b ∷ bs) = by (eqb b 34) (eqb b 92) (is_raw b) refl refl re
             ∙ cond-false (eqb b 92) (quoted_read true p.0) (cond (is_raw b) (stop Wrong (length (b ∷ p.0))) (with_front (b ∷ []) (quoted_read false p.0))) y
             ∙ cond-true (is_raw b) (stop Wrong (length (b ∷ p.0))) (with_front (b ∷ []) (quoted_read false p.0)) z)
     by false false false x y z it il =
-        found-taken (quoted_read false) (λ w. with_front (b ∷ []) (quoted_read false w)) (QuotedBy false) (BeginsQuoted false) b
+        found-taken N (quoted_read false) (λ w. with_front (b ∷ []) (quoted_read false w)) (QuotedBy false) (BeginsQuoted false) b
         (λ w. cond-false (eqb b 34) (ok [] w) (cond (eqb b 92) (quoted_read true w) (cond (is_raw b) (stop Wrong (length (b ∷ w))) (with_front (b ∷ []) (quoted_read false w)))) x
         ∙ cond-false (eqb b 92) (quoted_read true w) (cond (is_raw b) (stop Wrong (length (b ∷ w))) (with_front (b ∷ []) (quoted_read false w))) y
         ∙ cond-false (is_raw b) (stop Wrong (length (b ∷ w))) (with_front (b ∷ []) (quoted_read false w)) z) bs (with_front (b ∷ []) (quoted_read false bs))
-        (front-found (b ∷ []) (quoted_read false) (λ a v. QuotedBy false a (b ∷ v)) (λ k v r. BeginsQuoted false k (b ∷ v) r) bs (quoted_read false bs)
-        (found-map (quoted_read false) (QuotedBy false) (λ a v. QuotedBy false (b ∷ a) (b ∷ v)) (BeginsQuoted false) (λ k v r. BeginsQuoted false k (b ∷ v) r)
+        (front-found N (b ∷ []) (quoted_read false) (λ a v. QuotedBy false a (b ∷ v)) (λ k v r. BeginsQuoted false k (b ∷ v) r) bs (quoted_read false bs)
+        (found-map N (quoted_read false) (QuotedBy false) (λ a v. QuotedBy false (b ∷ a) (b ∷ v)) (BeginsQuoted false) (λ k v r. BeginsQuoted false k (b ∷ v) r)
         (λ a v s. (b ∷ s.0, ap (λ (l : List ℕ). b ∷ l) s.1, as_it_is b x y z s.2)) (λ k v r s. (s.0, b ∷ s.1, s.2, as_it_is b x y z s.3)) bs (quoted_read false bs) il))
 
 -- ---- a text between its quotes
