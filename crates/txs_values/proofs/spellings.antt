@@ -8,3 +8,5 @@ pub mod Found
 pub mod Tokens
 pub mod Names
 pub mod Starts
+pub mod Levels
+pub mod Soundness

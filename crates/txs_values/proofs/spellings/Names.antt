@@ -270,10 +270,10 @@ pub left-map : (N : Type 0) {A : Type 0} (f : List ℕ → Outcome A) (H K : Kin
     → (bs : List ℕ) (k : Kind) (n : ℕ) → Left N f H bs k n → Left N f K bs k n
 left-map N f H K h bs k n x = record { used = x.used; rest = x.rest; whole = x.whole; count = x.count; here = h k x.used x.rest x.here; local = x.local }
 
-left-at : (N : Type 0) {A : Type 0} (f : List ℕ → Outcome A) (H K : Kind → List ℕ → List ℕ → Type 0) (bs : List ℕ) (k : Kind) (n : ℕ) → ((u r : List ℕ) → H k u r → K k u r) → Left N f H bs k n → Left N f K bs k n
+pub left-at : (N : Type 0) {A : Type 0} (f : List ℕ → Outcome A) (H K : Kind → List ℕ → List ℕ → Type 0) (bs : List ℕ) (k : Kind) (n : ℕ) → ((u r : List ℕ) → H k u r → K k u r) → Left N f H bs k n → Left N f K bs k n
 left-at N f H K bs k n h x = record { used = x.used; rest = x.rest; whole = x.whole; count = x.count; here = h x.used x.rest x.here; local = x.local }
 
-left-after : (N : Type 0) {A B : Type 0} (f : List ℕ → Outcome A) (go : A → List ℕ → Outcome B) (H : Kind → List ℕ → List ℕ → Type 0) (bs : List ℕ) (k : Kind) (n : ℕ) → Left N f H bs k n → Left N (λ w. after (f w) go) H bs k n
+pub left-after : (N : Type 0) {A B : Type 0} (f : List ℕ → Outcome A) (go : A → List ℕ → Outcome B) (H : Kind → List ℕ → List ℕ → Type 0) (bs : List ℕ) (k : Kind) (n : ℕ) → Left N f H bs k n → Left N (λ w. after (f w) go) H bs k n
 left-after N f go H bs k n x = record { used = x.used; rest = x.rest; whole = x.whole; count = x.count; here = x.here; local = λ nn e w h. ap (λ o. after o go) (x.local nn e w h) }
 
 -- nothing yet, or a name of these begins so
@@ -346,7 +346,7 @@ abbrev pub BeginsMade : Table → ℕ → Kind → List ℕ → List ℕ → Typ
 BeginsMade table k q u r =
     (q ≡ Wrong) × ((u ≡ []) ⊎ ((c : ℕ) × (name : List ℕ) × (fs : List Field) × (y : List ℕ) × (place_of table c ≡ Some (record { ty = k; constructor = record { name = name; fields = fs } })) × (name ≡ u ++ y)))
 
-goes-head : (w r : List ℕ) → head w ≡ head r → goes_on w ≡ goes_on r
+pub goes-head : (w r : List ℕ) → head w ≡ head r → goes_on w ≡ goes_on r
 goes-head [] [] h = refl
 goes-head [] (b ∷ r) h = absurd (cc)
 goes-head (c ∷ w) [] h = absurd (cc)

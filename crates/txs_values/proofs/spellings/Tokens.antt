@@ -242,15 +242,15 @@ name-is (x ∷ xs) rest e = cond-true (eqb x x) (name_read xs (xs ++ rest)) (sto
 -- ---- a text
 
 -- behind a backslash or not
-abbrev Before : Bool → List ℕ → List ℕ
+abbrev pub Before : Bool → List ℕ → List ℕ
 Before true u = 92 ∷ u
 Before false u = u
 
 -- it ends with its quote; some text goes on so
-abbrev QuotedBy : Bool → List ℕ → List ℕ → Type 0
+abbrev pub QuotedBy : Bool → List ℕ → List ℕ → Type 0
 QuotedBy esc a u = (ws : List ℕ) × (u ≡ ws ++ 34 ∷ []) × Quotes a (Before esc ws)
 
-abbrev BeginsQuoted : Bool → Kind → List ℕ → List ℕ → Type 0
+abbrev pub BeginsQuoted : Bool → Kind → List ℕ → List ℕ → Type 0
 BeginsQuoted esc k u r = (k ≡ Wrong) × (a : List ℕ) × (more : List ℕ) × Quotes a (Before esc (u ++ more))
 
 pub sound_quoted : (N : Type 0) → (esc : Bool) → Sound N (quoted_read esc) (QuotedBy esc) (BeginsQuoted esc)
