@@ -10,3 +10,6 @@ pub mod Names
 pub mod Starts
 pub mod Levels
 pub mod Soundness
+pub mod Finds
+pub mod Utf8
+pub mod Lone
