@@ -13,3 +13,4 @@ pub mod Soundness
 pub mod Finds
 pub mod Utf8
 pub mod Lone
+pub mod Reaches

@@ -4,6 +4,7 @@ use Rattle.txs_values.specs.declared.refusal.ReadValueFault.{ReadValueFault}
 use Rattle.txs_values.specs.declared.refusal.ReadValueFault.TheVariants.{NotText, WrongForm, Range, TooDeep, TooBig, NoMemory}
 use Rattle.std.specs.Str.Parse.{signed_digits_value}
 use Rattle.txs_values.specs.Value.{Ty, Value, Field, Table, place_of, field_types, fits, size, value_size_limit, value_height_limit, HasType, whole, named}
+use Rattle.txs_values.specs.Spelling.{is_digit}
 use Rattle.txs_values.specs.Spelled.{AreBlanks, AreDigits, IsSign, Spells, IsSpelling, IsNamed}
 
 -- ---- tables whose texts can be read
@@ -57,7 +58,12 @@ pub record IsWrong (table : Table) (t : Ty) (p r : List ℕ) : Type 0 where
   pub begins : Begins table t p
   pub longest : (q more : List ℕ) → p ++ r ≡ q ++ more → Begins table t q → length q ≤ length p
 
--- a number out of the range of Int
+-- no digit is in front
+abbrev pub NoDigit : List ℕ → Type 0
+NoDigit [] = Unit {0}
+NoDigit (b ∷ bs) = is_digit b ≡ false
+
+-- a number, with all its digits, that is out of the range of Int
 pub record IsPast (table : Table) (t : Ty) (p r : List ℕ) : Type 0 where
   pub front : List ℕ
   pub blanks : List ℕ
@@ -73,6 +79,7 @@ pub record IsPast (table : Table) (t : Ty) (p r : List ℕ) : Type 0 where
   pub are_digits : AreDigits (first ∷ digits)
   pub is_past : fits (signed_digits_value 10 (sign ++ first ∷ digits)) ≡ false
   pub here : r ≡ (sign ++ first ∷ digits) ++ more
+  pub ends : NoDigit more
 
 -- a parenthesis whose arguments would stand above the limit
 pub record IsDeep (table : Table) (t : Ty) (p r : List ℕ) : Type 0 where

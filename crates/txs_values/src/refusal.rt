@@ -43,11 +43,25 @@ pub fn read_value(
         (λ v. IsUtf8 bytes.now × IsSpelling table.now (ty_of ty) (value_of v) bytes.now × IsAllowed table.now (ty_of ty) (value_of v))
         (λ f. (f ≡ NoMemory) ⊎ ((v : value.Value) → IsUtf8 bytes.now → IsSpelling table.now (ty_of ty) v bytes.now → IsAllowed table.now (ty_of ty) v → ⊥)) }
     ensures not_text { (result ≡ Err NotText) ↔ (IsUtf8 bytes.now → ⊥) }
-    ensures refused { IsReadable table.now (ty_of ty) → result ≢ Err NoMemory → (f : Fault) → f ≢ NoMemory → (result ≡ Err f) ↔ Refuses table.now (ty_of ty) bytes.now f }
 {
-    if std::str::from_utf8(bytes).is_err() {
-        return Err(ReadValueFault::NotText);
+    match std::str::from_utf8(bytes) {
+        Ok(_) => read_text(alloc, table, ty, bytes),
+        Err(_) => Err(ReadValueFault::NotText),
     }
+}
+
+fn read_text(
+    alloc: Global,
+    table: &TypeTable,
+    ty: Ty,
+    bytes: &[u8],
+) -> Result<Value, ReadValueFault>
+    requires { IsUtf8 bytes.now }
+    ensures exact { IsNamed table.now → MatchResult result
+        (λ v. IsUtf8 bytes.now × IsSpelling table.now (ty_of ty) (value_of v) bytes.now × IsAllowed table.now (ty_of ty) (value_of v))
+        (λ f. (f ≡ NoMemory) ⊎ ((v : value.Value) → IsUtf8 bytes.now → IsSpelling table.now (ty_of ty) v bytes.now → IsAllowed table.now (ty_of ty) v → ⊥)) }
+    ensures text { result ≢ Err NotText }
+{
     match lone(alloc, table, ty, bytes) {
         Ok(value) => {
             if size_of(&value) > VALUE_SIZE_LIMIT {

@@ -45,13 +45,13 @@ ends-same : {A F : Type 0} (o p : Outcome A) (a : A) (r : List ℕ) → p ≡ o 
 ends-same o p a r e (inl h) = inl (e ∙ h)
 ends-same o p a r e (inr l) = inr (limit-same o p r e l)
 
-stops-goes : (r : List ℕ) → Stops is_name_byte r → goes_on r ≡ false
+pub stops-goes : (r : List ℕ) → Stops is_name_byte r → goes_on r ≡ false
 stops-goes [] s = refl
 stops-goes (b ∷ r) s = s
 
 -- ---- a number
 
-signed-run : {sign : List ℕ} → IsSign sign → (d : ℕ) (ds rest : List ℕ) → AreDigits (d ∷ ds) → Stops is_digit rest
+pub signed-run : {sign : List ℕ} → IsSign sign → (d : ℕ) (ds rest : List ℕ) → AreDigits (d ∷ ds) → Stops is_digit rest
     → (number_run ((sign ++ d ∷ ds) ++ rest) ≡ sign ++ d ∷ ds) × (past_number ((sign ++ d ∷ ds) ++ rest) ≡ rest) × (has_digit (sign ++ d ∷ ds) ≡ true)
 signed-run no_sign d ds rest h s =
     let k = digits-each (d ∷ ds) h in
@@ -71,7 +71,7 @@ signed-run minus_sign d ds rest h s =
       refl,
     )
 
-number-by : (bs run past : List ℕ) → has_digit run ≡ true → number_run bs ≡ run → past_number bs ≡ past
+pub number-by : (bs run past : List ℕ) → has_digit run ≡ true → number_run bs ≡ run → past_number bs ≡ past
     → number_read bs ≡ cond (fits (signed_digits_value 10 run)) (ok (num (signed_digits_value 10 run)) past) (stop Past (length bs))
 number-by bs run past d e f =
     ap (λ r. cond (has_digit r) (cond (fits (signed_digits_value 10 r)) (ok (num (signed_digits_value 10 r)) (past_number bs)) (stop Past (length bs))) (stop Wrong (length (past_number bs)))) e
@@ -127,7 +127,7 @@ text-ends F a ws rest q =
 
 -- ---- arguments
 
-symbol-is : (c : ℕ) (ws rest : List ℕ) → AreBlanks ws → is_blank c ≡ false → symbol c (ws ++ c ∷ rest) ≡ ok tt rest
+pub symbol-is : (c : ℕ) (ws rest : List ℕ) → AreBlanks ws → is_blank c ≡ false → symbol c (ws ++ c ∷ rest) ≡ ok tt rest
 symbol-is c ws rest h s = ap (symbol_here c) (past_blanks-is ws (c ∷ rest) h s) ∙ cond-true (eqb c c) (ok tt rest) (stop Wrong (length (c ∷ rest))) (eq-eqb c c refl)
 
 packed-listed : (vs : Values) → packed (listed vs) ≡ vs
@@ -137,7 +137,7 @@ packed-listed (and_value v vs) = ap (and_value v) (packed-listed vs)
 abbrev FineEach : Table → ℕ → List Ty → Values → Type 0
 FineEach table left ts vs = (has_fields table vs (Some ts) ≡ true) × (heights vs ≤ suc left)
 
-length-behind : (x : List ℕ) (c : ℕ) (r : List ℕ) → length r ≤ length (x ++ c ∷ r)
+pub length-behind : (x : List ℕ) (c : ℕ) (r : List ℕ) → length r ≤ length (x ++ c ∷ r)
 length-behind x c r = let n = length-append x (c ∷ r) in omega (arith, n)
 
 module _ (table : Table) (left : ℕ) (below : Reader) (complete : Complete table left below) where

@@ -6,15 +6,20 @@ use Rattle.std.specs.Str.Parse.{signed_digits_value}
 use Rattle.txs_values.specs.declared.reading.Kind.{Kind}
 use Rattle.txs_values.specs.declared.reading.Kind.TheVariants.{Wrong, Past, Deep, Broken}
 use Rattle.txs_values.specs.Value.{Ty, whole, truth, string, named, Value, num, bool, text, cons, Values, no_value, and_value, packed, Field, Table, place_of, field_types, HasType, has_fields, height, heights, value_height_limit}
-use Rattle.txs_values.specs.Spelling.{past_blanks, is_blank, Made}
+use Rattle.txs_values.specs.Spelling.{past_blanks, is_blank, is_digit, Made}
+use Rattle.txs_values.proofs.spellings.Bytes.{Stops}
 use Rattle.txs_values.specs.Spelled.{AreBlanks, IsSign, no_sign, minus_sign, Quotes, nothing, Spells, a_number, a_true, a_false, a_text, a_constant, a_made, SpellsEach, the_last, one_more}
-use Rattle.txs_values.specs.Faults.{HaveValues, IsReadable, Begins, Leads, no_more, one_before, Stands, as_whole, as_argument, IsPast, IsDeep}
+use Rattle.txs_values.specs.Faults.{HaveValues, NoDigit, IsReadable, Begins, Leads, no_more, one_before, Stands, as_whole, as_argument, IsPast, IsDeep}
 use Rattle.txs_values.specs.Reading.{Outcome, ok, stop, after, with_front, symbol_here, symbol, number_read, truth_read, text_read, made_read, Reader, mark_behind, arguments_read, full_read, enclosed_read, fields_read, level_read, value_read}
 use Rattle.txs_values.proofs.spellings.Found.{head, Got, Left, Found, Sound, head-none, head-some, found-ok, found-wrong, sound_after, sound_front, found-map, sound_map, sound_blanks}
 use Rattle.txs_values.proofs.spellings.Tokens.{sound_symbol_here, IsWhole, IsPastHere, sound_number, IsBroken}
 use Rattle.txs_values.proofs.spellings.Names.{IsMade, BeginsMade, sound_made}
 use Rattle.txs_values.proofs.spellings.Starts.{BeginsIn, begins-front, leads-snoc, rest-behind, made-begins, have-behind, stands-valued, blanks-begin, name-begins, open-begins}
 use Rattle.txs_values.proofs.spellings.Levels.{Here, Good, GoodEach, GoodArguments, IsTruth, BeginsTruth, sound_truth, IsQuoted, sound_text, typed-cons, same-place, begun, SoundBelow}
+
+no-digit : (l : List ℕ) → Stops is_digit l → NoDigit l
+no-digit [] s = tt
+no-digit (b ∷ l) s = s
 
 -- ---- the values of the built-in types, behind blanks
 
@@ -47,6 +52,7 @@ module _ (table : Table) (t : Ty) (left : ℕ) (front : List ℕ) (level : ℕ) 
         are_digits = p.are_digits;
         is_past = p.is_past;
         here = p.here;
+        ends = no-digit p.more p.ends;
       }))
 
   truth-good : (v : Value) (u : List ℕ) → IsTruth (IsReadable table t) v u → Good table left truth v (ws ++ u)

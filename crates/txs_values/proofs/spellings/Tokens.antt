@@ -37,8 +37,13 @@ past-run-stops p (b ∷ bs) = by (p b) refl (past-run-stops p bs)
     by true e h = h
     by false e h = e
 
-is_minus : ℕ → Bool
-is_minus b = eqb b 45
+past_number-stops : (bs : List ℕ) → Stops is_digit (past_number bs)
+past_number-stops [] = tt
+past_number-stops (b ∷ bs) = by (eqb b 45)
+  where
+    by : (t : Bool) → Stops is_digit (cond t (past_run is_digit bs) (past_run is_digit (b ∷ bs)))
+    by true = past-run-stops is_digit bs
+    by false = past-run-stops is_digit (b ∷ bs)
 
 plain-run : (l : List ℕ) → Stops (λ b. eqb b 45) l → (number_run l ≡ run_of is_digit l) × (past_number l ≡ past_run is_digit l)
 plain-run [] s = (refl, refl)
@@ -129,6 +134,7 @@ pub record IsPastHere (r : List ℕ) : Type 0 where
   pub are_digits : AreDigits (first ∷ digits)
   pub is_past : fits (signed_digits_value 10 (sign ++ first ∷ digits)) ≡ false
   pub here : r ≡ (sign ++ first ∷ digits) ++ more
+  pub ends : Stops is_digit more
 
 abbrev number_by : List ℕ → List ℕ → List ℕ → Outcome Value
 number_by bs run past =
@@ -173,6 +179,7 @@ module _ (N : Type 0) (H : Kind → List ℕ → List ℕ → Type 0) (wrong : (
       are_digits = s.4;
       is_past = subst (λ run. fits (signed_digits_value 10 run) ≡ false) s.5 e;
       here = number_run-parts bs ∙ ap (λ run. run ++ past_number bs) s.5;
+      ends = past_number-stops bs;
     });
     local = λ _ k w h. absurd (cc);
   }
