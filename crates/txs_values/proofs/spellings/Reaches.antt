@@ -1,5 +1,6 @@
 -- What is wrong at a place stops the reader there, or before.
 use Rattle.std.proofs.Common.{◌≡◌, ℕ, zero, suc, ◌+◌, ◌≤◌, ◌⊎◌, inl, inr, false, cond, List, [], ◌∷◌, ◌++◌, length, Option, Some, None, refl, sym, ap, subst, ◌∙◌, append_assoc, length-append, arith}
+use Rattle.std.proofs.lemmas.Bool.{cond-false}
 use Rattle.std.specs.Str.Parse.{signed_digits_value}
 use Rattle.txs_values.specs.declared.reading.Kind.{Kind}
 use Rattle.txs_values.specs.declared.reading.Kind.TheVariants.{Wrong, Past, Deep, Broken}
@@ -98,37 +99,68 @@ module _ (table : Table) (t : Ty) (is_named : IsNamed table) where
       by q (inl h) = inl (h.0, h.1, q ∙ ap (λ o. after o (λ vs end. ok (cons c (packed vs)) end)) h.2, h.3)
       by q (inr h) = inr (λ k n e. q ∙ ap (λ o. after o (λ vs end. ok (cons c (packed vs)) end)) (h k n e))
 
-  pub stands-reach : {front : List ℕ} {level : ℕ} {u : Ty} → Stands table t front level u → (left : ℕ) → level + left ≡ value_height_limit → (bs : List ℕ)
-      → Reaches (value_read table levels_below t (front ++ bs)) (value_read table left u bs) bs
-  stands-reach as_whole left e bs =
-      let a = levels-all in
-      let l : left ≡ levels_below = omega (arith, a, e) in
-      inr (λ k n h. ap (λ i. value_read table i t bs) (sym l) ∙ h)
-  stands-reach (as_argument front bl before lead level c k name fs us ms u st ab bb e types l) left h bs =
+  deep-read : (bl before tail : List ℕ) (c k : ℕ) (name : List ℕ) (f : Field) (fs : List Field) → AreBlanks bl → AreBlanks before → place_of table c ≡ Some (record { ty = k; constructor = record { name = name; fields = f ∷ fs } })
+      → value_read table 0 (named k) (bl ++ (name ++ (before ++ (40 ∷ tail)))) ≡ stop Deep (length (40 ∷ tail))
+  deep-read bl before tail c k name f fs ab bb e = named-read table is_named None bl c k name f fs before tail ab bb e ∙ ap full_read (past_blanks-is before (40 ∷ tail) bb refl)
+
+  fields-deep : (bl before lead bs : List ℕ) (c k : ℕ) (name : List ℕ) (fs : List Field) (us ms : List Ty) (u : Ty) → AreBlanks bl → AreBlanks before
+      → place_of table c ≡ Some (record { ty = k; constructor = record { name = name; fields = fs } }) → field_types fs ≡ us ++ u ∷ ms
+      → Early (value_read table 0 (named k) (bl ++ (name ++ (before ++ (40 ∷ (lead ++ bs)))))) bs
+  fields-deep bl before lead bs c k name [] us ms u ab bb e types = absurd (no-first us u ms types)
+  fields-deep bl before lead bs c k name (f ∷ fs) us ms u ab bb e types =
+      let n = length-append lead bs in
+      (Deep, length (40 ∷ (lead ++ bs)), deep-read bl before (lead ++ bs) c k name f fs ab bb e, omega (arith, n))
+
+  -- with the levels that are left at a place, or else past a parenthesis that is too deep
+  abbrev Reached : List ℕ → ℕ → Ty → List ℕ → Type 0
+  Reached front level u bs =
+      ((left : ℕ) × (level + left ≡ value_height_limit) × Reaches (value_read table levels_below t (front ++ bs)) (value_read table left u bs) bs) ⊎ Early (value_read table levels_below t (front ++ bs)) bs
+
+  longer : (bl name before lead bs : List ℕ) → length bs ≤ length (bl ++ (name ++ (before ++ (40 ∷ (lead ++ bs)))))
+  longer bl name before lead bs =
+      let a = length-append bl (name ++ (before ++ (40 ∷ (lead ++ bs)))) in
+      let b = length-append name (before ++ (40 ∷ (lead ++ bs))) in
+      let c = length-append before (40 ∷ (lead ++ bs)) in
+      let d = length-append lead bs in
+      omega (arith, a, b, c, d)
+
+  reach-in : (front inner bs : List ℕ) (left k : ℕ) (u : Ty) → length bs ≤ length inner → Reaches (value_read table levels_below t (front ++ inner)) (value_read table (suc left) (named k) inner) inner
+      → Reaches (value_read table (suc left) (named k) inner) (value_read table left u bs) bs → Reaches (value_read table levels_below t (front ++ inner)) (value_read table left u bs) bs
+  reach-in front inner bs left k u m (inl x) y = let w = x.3 in inl (x.0, x.1, x.2, omega (arith, w, m))
+  reach-in front inner bs left k u m (inr x) (inl y) = inl (y.0, y.1, x y.0 y.1 y.2, y.3)
+  reach-in front inner bs left k u m (inr x) (inr y) = inr (λ k n z. x k n (y k n z))
+
+  early-in : (front inner bs : List ℕ) (left k : ℕ) → length bs ≤ length inner → Reaches (value_read table levels_below t (front ++ inner)) (value_read table left (named k) inner) inner
+      → Early (value_read table left (named k) inner) bs → Early (value_read table levels_below t (front ++ inner)) bs
+  early-in front inner bs left k m (inl x) y = let w = x.3 in (x.0, x.1, x.2, omega (arith, w, m))
+  early-in front inner bs left k m (inr x) y = (y.0, y.1, x y.0 y.1 y.2, y.3)
+
+  pub stands-reach : {front : List ℕ} {level : ℕ} {u : Ty} → Stands table t front level u → (bs : List ℕ) → Reached front level u bs
+  stands-reach as_whole bs = inl (levels_below, levels-all, inr (λ k n h. h))
+  stands-reach (as_argument front bl before lead level c k name fs us ms u st ab bb e types l) bs =
       let inner : List ℕ = bl ++ (name ++ (before ++ (40 ∷ (lead ++ bs)))) in
-      subst (λ x. Reaches (value_read table levels_below t x) (value_read table left u bs) bs) (shift front bl name before lead)
-      (by inner (longer bl name before lead) (stands-reach st (suc left) (omega (arith, h)) inner) (fields-reach left bl before lead bs c k name fs us ms u ab bb e types l))
+      by (stands-reach st inner)
     where
-      shift : (front bl name before lead : List ℕ) → front ++ (bl ++ (name ++ (before ++ (40 ∷ (lead ++ bs))))) ≡ (front ++ (bl ++ (name ++ (before ++ (40 ∷ lead))))) ++ bs
-      shift front bl name before lead = simp append_assoc
-      longer : (bl name before lead : List ℕ) → length bs ≤ length (bl ++ (name ++ (before ++ (40 ∷ (lead ++ bs)))))
-      longer bl name before lead =
-          let a = length-append bl (name ++ (before ++ (40 ∷ (lead ++ bs)))) in
-          let b = length-append name (before ++ (40 ∷ (lead ++ bs))) in
-          let c = length-append before (40 ∷ (lead ++ bs)) in
-          let d = length-append lead bs in
-          omega (arith, a, b, c, d)
-      by : (inner : List ℕ) → length bs ≤ length inner → Reaches (value_read table levels_below t (front ++ inner)) (value_read table (suc left) (named k) inner) inner
-          → Reaches (value_read table (suc left) (named k) inner) (value_read table left u bs) bs → Reaches (value_read table levels_below t (front ++ inner)) (value_read table left u bs) bs
-      by inner m (inl x) y = let w = x.3 in inl (x.0, x.1, x.2, omega (arith, w, m))
-      by inner m (inr x) (inl y) = inl (y.0, y.1, x y.0 y.1 y.2, y.3)
-      by inner m (inr x) (inr y) = inr (λ k n z. x k n (y k n z))
+      shift : front ++ (bl ++ (name ++ (before ++ (40 ∷ (lead ++ bs))))) ≡ (front ++ (bl ++ (name ++ (before ++ (40 ∷ lead))))) ++ bs
+      shift = simp append_assoc
+      at : (left : ℕ) → level + left ≡ value_height_limit → Reaches (value_read table levels_below t (front ++ (bl ++ (name ++ (before ++ (40 ∷ (lead ++ bs))))))) (value_read table left (named k) (bl ++ (name ++ (before ++ (40 ∷ (lead ++ bs)))))) (bl ++ (name ++ (before ++ (40 ∷ (lead ++ bs)))))
+          → Reached (front ++ (bl ++ (name ++ (before ++ (40 ∷ lead))))) (suc level) u bs
+      at zero h x = inr (subst (λ y. Early (value_read table levels_below t y) bs) shift (early-in front (bl ++ (name ++ (before ++ (40 ∷ (lead ++ bs))))) bs 0 k (longer bl name before lead bs) x (fields-deep bl before lead bs c k name fs us ms u ab bb e types)))
+      at (suc left) h x = inl (
+        left,
+        omega (arith, h),
+        subst (λ y. Reaches (value_read table levels_below t y) (value_read table left u bs) bs) shift
+            (reach-in front (bl ++ (name ++ (before ++ (40 ∷ (lead ++ bs))))) bs left k u (longer bl name before lead bs) x (fields-reach left bl before lead bs c k name fs us ms u ab bb e types l)),
+      )
+      by : Reached front level (named k) (bl ++ (name ++ (before ++ (40 ∷ (lead ++ bs))))) → Reached (front ++ (bl ++ (name ++ (before ++ (40 ∷ lead))))) (suc level) u bs
+      by (inl x) = at x.0 x.1 x.2
+      by (inr x) = let m = longer bl name before lead bs in let w = x.3 in inr (subst (λ y. Early (value_read table levels_below t y) bs) shift (x.0, x.1, x.2, omega (arith, m, w)))
 
   -- a stop within the value is one of the whole text
-  lone-early : (front bs r : List ℕ) (left : ℕ) (u : Ty) (k : Kind) (n : ℕ) → Reaches (value_read table levels_below t (front ++ bs)) (value_read table left u bs) bs → value_read table left u bs ≡ stop k n → length r ≤ n
-      → length r ≤ length bs → Early (lone_read table t (front ++ bs)) r
-  lone-early front bs r left u k n (inl x) e l m = let w = x.3 in (x.0, x.1, ap (λ o. after o (λ v r. ended v (past_blanks r))) x.2, omega (arith, w, m))
-  lone-early front bs r left u k n (inr x) e l m = (k, n, ap (λ o. after o (λ v r. ended v (past_blanks r))) (x k n e), l)
+  lone-early : (front bs r : List ℕ) (level : ℕ) (u : Ty) → Reached front level u bs → ((left : ℕ) → level + left ≡ value_height_limit → Early (value_read table left u bs) r) → length r ≤ length bs → Early (lone_read table t (front ++ bs)) r
+  lone-early front bs r level u (inr x) e m = let w = x.3 in (x.0, x.1, ap (λ o. after o (λ v r. ended v (past_blanks r))) x.2, omega (arith, w, m))
+  lone-early front bs r level u (inl (left, h, inl x)) e m = let w = x.3 in (x.0, x.1, ap (λ o. after o (λ v r. ended v (past_blanks r))) x.2, omega (arith, w, m))
+  lone-early front bs r level u (inl (left, h, inr x)) e m = let y = e left h in (y.0, y.1, ap (λ o. after o (λ v r. ended v (past_blanks r))) (x y.0 y.1 y.2), y.3)
 
   digit-stops : (l : List ℕ) → NoDigit l → Stops is_digit l
   digit-stops [] s = tt
@@ -138,3 +170,41 @@ module _ (table : Table) (t : Ty) (is_named : IsNamed table) where
   whole-read zero bs = refl
   whole-read (suc left) bs = refl
 
+  shorter : (a b : List ℕ) → length b ≤ length (a ++ b)
+  shorter a b = let n = length-append a b in omega (arith, n)
+
+  pub past-early : (p r : List ℕ) → IsPast table t p r → Early (lone_read table t (p ++ r)) r
+  past-early p r h =
+      let run : List ℕ = h.sign ++ h.first ∷ h.digits in
+      let s = signed-run h.is_sign h.first h.digits h.more h.are_digits (digit-stops h.more h.ends) in
+      let q : (h.front ++ (h.blanks ++ (run ++ h.more))) ≡ p ++ r = sym (append_assoc h.front h.blanks (run ++ h.more)) ∙ ap (λ (l : List ℕ). l ++ (run ++ h.more)) (sym h.before) ∙ ap (λ (l : List ℕ). p ++ l) (sym h.here) in
+      let l : length (run ++ h.more) ≡ length r = ap length (sym h.here) in
+      let m = shorter h.blanks (run ++ h.more) in
+      subst (λ x. Early (lone_read table t x) r) q
+      (lone-early h.front (h.blanks ++ (run ++ h.more)) r h.level whole (stands-reach h.stands (h.blanks ++ (run ++ h.more)))
+      (λ left _. (
+        Past,
+        length (run ++ h.more),
+        whole-read left (h.blanks ++ (run ++ h.more)) ∙ ap number_read (ap past_blanks (sym (append_assoc h.blanks run h.more)) ∙ token-is h.blanks run h.more h.are_blanks (number-stops h.is_sign h.first h.digits h.more h.are_digits))
+            ∙ number-by (run ++ h.more) run h.more s.2 s.0 s.1 ∙ cond-false (fits (signed_digits_value 10 run)) (ok (num (signed_digits_value 10 run)) h.more) (stop Past (length (run ++ h.more))) h.is_past,
+        omega (arith, l),
+      ))
+      (omega (arith, l, m)))
+
+  pub deep-early : (p r : List ℕ) → IsDeep table t p r → Early (lone_read table t (p ++ r)) r
+  deep-early p r h =
+      let inner : List ℕ = h.blanks ++ (h.name ++ (h.behind ++ (40 ∷ h.more))) in
+      let q : h.front ++ inner ≡ p ++ r = shift h.front h.blanks h.name h.behind (40 ∷ h.more) ∙ ap (λ (l : List ℕ). l ++ (40 ∷ h.more)) (sym h.before) ∙ ap (λ (l : List ℕ). p ++ l) (sym h.here) in
+      let l : length (40 ∷ h.more) ≡ length r = ap length (sym h.here) in
+      let a = length-append h.blanks (h.name ++ (h.behind ++ (40 ∷ h.more))) in
+      let b = length-append h.name (h.behind ++ (40 ∷ h.more)) in
+      let c = length-append h.behind (40 ∷ h.more) in
+      subst (λ x. Early (lone_read table t x) r) q
+      (lone-early h.front inner r value_height_limit (named h.k) (stands-reach h.stands inner)
+      (λ left e.
+      let z : left ≡ 0 = omega (arith, e) in
+      (Deep, length (40 ∷ h.more), ap (λ i. value_read table i (named h.k) inner) z ∙ deep-read h.blanks h.behind h.more h.c h.k h.name h.field h.fields h.are_blanks h.blanks_behind h.placed, omega (arith, l)))
+      (omega (arith, l, a, b, c)))
+    where
+      shift : (front bl name before tail : List ℕ) → front ++ (bl ++ (name ++ (before ++ tail))) ≡ (front ++ (bl ++ (name ++ before))) ++ tail
+      shift front bl name before tail = simp append_assoc
