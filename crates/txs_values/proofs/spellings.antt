@@ -14,3 +14,4 @@ pub mod Finds
 pub mod Utf8
 pub mod Lone
 pub mod Reaches
+pub mod Directions
