@@ -1,0 +1,305 @@
+ghost use Rattle.std.specs.Prelude.{◌≡◌, ◌≢◌, ◌≤◌, ◌+◌, length, List, map, option_map, IfOk, Some, None, is_none, is_some, ◌&&◌};
+ghost use Rattle.txs_values.specs.Choices;
+ghost use Rattle.txs_values.specs.Choices.{extent_of, extent_chosen, first_chosen, next_choices, choice_rounds, chosen_in, built};
+ghost use Rattle.txs_values.specs.Default.{default_if};
+ghost use Rattle.txs_values.specs.TableView.{field_of, conses_of, table_of, constructor_count, constructor_limit};
+ghost use Rattle.txs_values.specs.View.{ty_of, value_of};
+
+use crate::{ConsDef, FieldDef, NoMemory, Text, Ty, TypeDef, TypeTable, Value};
+use sqlite_items::Items;
+use std::alloc::Global;
+
+/// How large and how high a value is; each 2^64 - 1 where it is greater.
+#[derive(Clone, Copy, Debug, PartialEq, Eq)]
+pub struct Extent {
+    pub size: u64,
+    pub height: u64,
+}
+
+/// The constructor of a default, and how large and high that is.
+#[derive(Clone, Copy, Debug)]
+struct Choice {
+    id: u32,
+    extent: Extent,
+}
+
+type Choices = Items<Option<Choice>>;
+
+/// The greatest size and height of a default that is made.
+const SIZE_LIMIT: u64 = 16_384;
+
+const HEIGHT_LIMIT: u32 = 1_000;
+
+fn extent_chosen(found: &[Option<Choice>], ty: Ty) -> Option<Extent>
+    ensures { result ≡ extent_chosen found.now (ty_of ty) }
+{
+    match ty {
+        Ty::Int | Ty::Bool | Ty::Text => Some(Extent { size: 1, height: 1 }),
+        Ty::Named(k) => match found.get(k as usize) {
+            Some(Some(choice)) => Some(choice.extent),
+            _ => None,
+        },
+    }
+}
+
+fn fields_extent(found: &[Option<Choice>], fields: &[FieldDef]) -> Option<Extent>
+    ensures { result ≡ Choices.fields_extent found.now 1 0 (map field_of fields.now) }
+{
+    let mut size: u64 = 1;
+    let mut height: u64 = 0;
+    for field in fields {
+        match extent_chosen(found, field.ty) {
+            None => return None,
+            Some(extent) => {
+                size = size.saturating_add(extent.size);
+                height = height.max(extent.height);
+            }
+        }
+    }
+    Some(Extent {
+        size,
+        height: height.saturating_add(1),
+    })
+}
+
+fn first_chosen(found: &[Option<Choice>], first: usize, cons: &[ConsDef]) -> Option<Choice>
+    requires { first + length cons.now ≤ constructor_limit }
+    ensures { result ≡ first_chosen found.now first (conses_of cons.now) }
+{
+    let mut id = first;
+    for constructor in cons {
+        if let Some(extent) = fields_extent(found, constructor.fields.as_slice()) {
+            return Some(Choice {
+                id: id as u32,
+                extent,
+            });
+        }
+        id += 1;
+    }
+    None
+}
+
+/// One round: the types that are found already stay, and each other takes its first constructor whose fields are found.
+fn next_choices(
+    alloc: Global,
+    defs: &[TypeDef],
+    found: &[Option<Choice>],
+) -> Result<Choices, NoMemory>
+    requires counted { constructor_count (table_of defs.now) ≤ constructor_limit }
+    requires same { length found.now ≡ length defs.now }
+    ensures { IfOk result (λ cs. cs ≡ next_choices found.now 0 (table_of defs.now) found.now) }
+{
+    let mut next = Items::new(alloc);
+    let mut first = 0;
+    let mut at = 0;
+    for def in defs {
+        let choice = match found[at] {
+            Some(choice) => Some(choice),
+            None => first_chosen(found, first, def.cons.as_slice()),
+        };
+        next.push(choice)?;
+        first += def.cons.len();
+        at += 1;
+    }
+    Ok(next)
+}
+
+fn nothing_chosen(alloc: Global, defs: &[TypeDef]) -> Result<Choices, NoMemory>
+    ensures { IfOk result (λ cs. cs ≡ choice_rounds 0 (table_of defs.now)) }
+{
+    let mut found = Items::new(alloc);
+    for _def in defs {
+        found.push(None)?;
+    }
+    Ok(found)
+}
+
+fn is_new(old: &Option<Choice>, new: &Option<Choice>) -> bool
+    ensures { result ≡ (is_none old.now && is_some new.now) }
+{
+    old.is_none() && new.is_some()
+}
+
+/// Whether a round found no more than was found before it.
+fn finds_nothing(found: &[Option<Choice>], next: &[Option<Choice>]) -> bool
+    requires { length found.now ≡ length next.now }
+    ensures { result ≡ Choices.finds_nothing found.now next.now }
+{
+    let mut at = 0;
+    for choice in next {
+        if is_new(&found[at], choice) {
+            return false;
+        }
+        at += 1;
+    }
+    true
+}
+
+/// The rounds, up to the one that finds nothing more.
+fn choice_rounds(alloc: Global, defs: &[TypeDef]) -> Result<Choices, NoMemory>
+    requires { constructor_count (table_of defs.now) ≤ constructor_limit }
+    ensures { IfOk result (λ cs. cs ≡ choice_rounds (length defs.now) (table_of defs.now)) }
+{
+    let mut found = nothing_chosen(alloc, defs)?;
+    for _round in 0..defs.len() {
+        let next = next_choices(alloc, defs, found.as_slice())?;
+        if finds_nothing(found.as_slice(), next.as_slice()) {
+            return Ok(found);
+        }
+        found = next;
+    }
+    Ok(found)
+}
+
+fn chosen_in(found: &[Option<Choice>], ty: u32) -> Option<Choice>
+    ensures { result ≡ chosen_in found.now ty }
+{
+    match found.get(ty as usize) {
+        Some(choice) => *choice,
+        None => None,
+    }
+}
+
+/// A default with this many levels at most.
+fn build(
+    alloc: Global,
+    table: &TypeTable,
+    found: &[Option<Choice>],
+    ty: Ty,
+    levels: u32,
+) -> Result<Value, NoMemory>
+    ensures { IfOk result (λ v. built levels table.now found.now (ty_of ty) ≡ Some (value_of v)) }
+{
+    if levels == 0 {
+        return Err(NoMemory);
+    }
+    match ty {
+        Ty::Int => Ok(Value::Int(0)),
+        Ty::Bool => Ok(Value::Bool(false)),
+        Ty::Text => Ok(Value::Text(Text::from_string(String::new(alloc)))),
+        Ty::Named(k) => match chosen_in(found, k) {
+            None => Err(NoMemory),
+            Some(choice) => match table.place(choice.id) {
+                None => Err(NoMemory),
+                Some((_, constructor)) => {
+                    let mut fields = Items::new(alloc);
+                    for field in constructor.fields.as_slice() {
+                        fields.push(build(alloc, table, found, field.ty, levels - 1)?)?;
+                    }
+                    Ok(Value::Cons {
+                        id: choice.id,
+                        fields,
+                    })
+                }
+            },
+        },
+    }
+}
+
+/// The default of a type. One that no value may be as large or as high as is not made.
+pub fn default_of(alloc: Global, table: &TypeTable, ty: Ty) -> Result<Value, NoMemory>
+    requires { default_if table.now (ty_of ty) ≢ None }
+    ensures { IfOk result (λ v. default_if table.now (ty_of ty) ≡ Some (value_of v)) }
+{
+    let found = choice_rounds(alloc, table.as_slice())?;
+    match extent_chosen(found.as_slice(), ty) {
+        None => Err(NoMemory),
+        Some(extent) => {
+            if extent.size > SIZE_LIMIT {
+                return Err(NoMemory);
+            }
+            build(alloc, table, found.as_slice(), ty, HEIGHT_LIMIT)
+        }
+    }
+}
+
+/// How large and how high the default of a type is, where it has one.
+pub fn default_extent(alloc: Global, table: &TypeTable, ty: Ty) -> Result<Option<Extent>, NoMemory>
+    ensures { IfOk result (λ e. e ≡ option_map extent_of (default_if table.now (ty_of ty))) }
+{
+    let found = choice_rounds(alloc, table.as_slice())?;
+    Ok(extent_chosen(found.as_slice(), ty))
+}
+
+#[cfg(test)]
+mod tests {
+    use super::*;
+    use crate::{TypeTable, text_of};
+    use std::test::Fail;
+
+    fn field(alloc: Global, name: &str, ty: Ty) -> Result<FieldDef, NoMemory> {
+        Ok(FieldDef {
+            name: Text::from_str(alloc, name)?,
+            ty,
+        })
+    }
+
+    fn constructor(alloc: Global, name: &str, types: &[Ty]) -> Result<ConsDef, NoMemory> {
+        let mut fields = Items::new(alloc);
+        for ty in types {
+            fields.push(field(alloc, "f", *ty)?)?;
+        }
+        Ok(ConsDef {
+            name: Text::from_str(alloc, name)?,
+            fields,
+        })
+    }
+
+    fn add(
+        alloc: Global,
+        table: &mut TypeTable,
+        name: &str,
+        first: ConsDef,
+        second: ConsDef,
+    ) -> Result<(), NoMemory> {
+        let mut cons = Items::new(alloc);
+        cons.push(first)?;
+        cons.push(second)?;
+        table.add(TypeDef {
+            name: Text::from_str(alloc, name)?,
+            cons,
+        })
+    }
+
+    #[test]
+    fn gives_defaults(rt: HostRuntime) -> Result<(), Fail> {
+        let alloc = rt.alloc();
+        let mut types = TypeTable::new(alloc);
+        // Op ::= Enq { val :: Int } | Deq
+        let enq = constructor(alloc, "Enq", &[Ty::Int])?;
+        let deq = constructor(alloc, "Deq", &[])?;
+        add(alloc, &mut types, "Op", enq, deq)?;
+        // L ::= Cons { hd :: Int; tl :: L } | Nil
+        let cons = constructor(alloc, "Cons", &[Ty::Int, Ty::Named(1)])?;
+        let nil = constructor(alloc, "Nil", &[])?;
+        add(alloc, &mut types, "L", cons, nil)?;
+        // A ::= OfB { b :: B } | Stop, where B is ranked after A
+        let of_b = constructor(alloc, "OfB", &[Ty::Named(3)])?;
+        let stop = constructor(alloc, "Stop", &[])?;
+        add(alloc, &mut types, "A", of_b, stop)?;
+        // B ::= OfA { a :: A } | Twice { a :: A; b :: B }
+        let of_a = constructor(alloc, "OfA", &[Ty::Named(2)])?;
+        let twice = constructor(alloc, "Twice", &[Ty::Named(2), Ty::Named(3)])?;
+        add(alloc, &mut types, "B", of_a, twice)?;
+        // C ::= Deep { b :: B } | Flat { t :: String; b :: Bool }
+        let deep = constructor(alloc, "Deep", &[Ty::Named(3)])?;
+        let flat = constructor(alloc, "Flat", &[Ty::Text, Ty::Bool])?;
+        add(alloc, &mut types, "C", deep, flat)?;
+        let table = [
+            (Ty::Int, "0"),
+            (Ty::Bool, "False"),
+            (Ty::Text, "\"\""),
+            (Ty::Named(0), "Enq(0)"),
+            (Ty::Named(1), "Nil"),
+            (Ty::Named(2), "Stop"),
+            (Ty::Named(3), "OfA(Stop)"),
+            (Ty::Named(4), "Flat(\"\",False)"),
+        ];
+        for (ty, want) in table {
+            let value = default_of(alloc, &types, ty)?;
+            let text = text_of(alloc, &types, &value)?;
+            assert_eq!(rt; text.as_str(), want);
+        }
+        Ok(())
+    }
+}
