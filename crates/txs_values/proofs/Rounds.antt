@@ -1,5 +1,5 @@
 -- What the loops over rounds and fields keep.
-use Rattle.std.proofs.Common.{◌≡◌, ℕ, zero, suc, ◌+◌, ◌-◌, ◌<◌, ◌≤◌, ◌&&◌, true, false, cond, is_some, is_none, List, [], ◌∷◌, ◌++◌, length, map, take, drop, get_or, Option, Some, None, Result, Ok, Err, IfOk, refl, sym, ap, ◌∙◌, arith, option_map}
+use Rattle.std.proofs.Common.{◌≡◌, ℕ, zero, suc, ◌+◌, ◌-◌, ◌<◌, ◌≤◌, ◌&&◌, true, false, cond, is_some, is_none, List, [], ◌∷◌, ◌++◌, length, map, take, drop, get_or, Option, Some, None, Result, Ok, Err, IfOk, IfSome, ◌≢◌, refl, sym, ap, ◌∙◌, arith, option_map}
 use Rattle.std.proofs.lemmas.List.{length-map, drop_more, take_more, take_all, map-append}
 use Rattle.txs_values.proofs.Building.{built-ranked, rounds-made}
 use Rattle.txs_values.proofs.Choosing.{rounds-end, rounds-ranked, extent-ranked, choice_rounds-length, nothing-more}
@@ -130,3 +130,10 @@ pub built-ok : {E : Type 0} (defs : List rust_type.TypeDef) (table : Table) (fou
     → found ≡ choice_rounds (length defs) (table_of defs) → IfOk r (λ v. built n table found t ≡ Some (value_of v)) → IfOk r (λ v. default_if table t ≡ Some (value_of v))
 built-ok defs table found t n (Ok v) d f h = built-default defs table found t n (value_of v) d f h
 built-ok defs table found t n (Err e) d f h = h
+
+-- where it is measured there is one
+pub extent-some : (o : Option Value) (r : Option rust_extent.Extent) → r ≡ option_map extent_of o → IfSome r (λ _. o ≢ None)
+extent-some None None e = tt
+extent-some None (Some x) e = absurd (cc)
+extent-some (Some v) None e = tt
+extent-some (Some v) (Some x) e = λ n. absurd (cc)

@@ -1,4 +1,4 @@
-ghost use Rattle.std.specs.Prelude.{◌≡◌, ◌≢◌, ◌≤◌, ◌+◌, length, List, map, option_map, IfOk, Some, None, is_none, is_some, ◌&&◌};
+ghost use Rattle.std.specs.Prelude.{◌≡◌, ◌≢◌, ◌≤◌, ◌+◌, length, List, map, option_map, IfOk, IfSome, Some, None, is_none, is_some, ◌&&◌};
 ghost use Rattle.txs_values.specs.Choices;
 ghost use Rattle.txs_values.specs.Choices.{extent_of, extent_chosen, first_chosen, next_choices, choice_rounds, chosen_in, built};
 ghost use Rattle.txs_values.specs.Default.{default_if};
@@ -215,7 +215,8 @@ pub fn default_of(alloc: Global, table: &TypeTable, ty: Ty) -> Result<Value, NoM
 
 /// How large and how high the default of a type is, where it has one.
 pub fn default_extent(alloc: Global, table: &TypeTable, ty: Ty) -> Result<Option<Extent>, NoMemory>
-    ensures { IfOk result (λ e. e ≡ option_map extent_of (default_if table.now (ty_of ty))) }
+    ensures extent { IfOk result (λ e. e ≡ option_map extent_of (default_if table.now (ty_of ty))) }
+    ensures exists { IfOk result (λ e. IfSome e (λ _. default_if table.now (ty_of ty) ≢ None)) }
 {
     let found = choice_rounds(alloc, table.as_slice())?;
     Ok(extent_chosen(found.as_slice(), ty))
@@ -224,20 +225,16 @@ pub fn default_extent(alloc: Global, table: &TypeTable, ty: Ty) -> Result<Option
 #[cfg(test)]
 mod tests {
     use super::*;
-    use crate::{TypeTable, text_of};
+    use crate::{height_of, size_of, text_of};
     use std::test::Fail;
-
-    fn field(alloc: Global, name: &str, ty: Ty) -> Result<FieldDef, NoMemory> {
-        Ok(FieldDef {
-            name: Text::from_str(alloc, name)?,
-            ty,
-        })
-    }
 
     fn constructor(alloc: Global, name: &str, types: &[Ty]) -> Result<ConsDef, NoMemory> {
         let mut fields = Items::new(alloc);
         for ty in types {
-            fields.push(field(alloc, "f", *ty)?)?;
+            fields.push(FieldDef {
+                name: Text::from_str(alloc, "f")?,
+                ty: *ty,
+            })?;
         }
         Ok(ConsDef {
             name: Text::from_str(alloc, name)?,
@@ -245,61 +242,127 @@ mod tests {
         })
     }
 
+    /// Adds a type of two constructors.
     fn add(
         alloc: Global,
         table: &mut TypeTable,
-        name: &str,
-        first: ConsDef,
-        second: ConsDef,
+        first: (&str, &[Ty]),
+        second: (&str, &[Ty]),
     ) -> Result<(), NoMemory> {
         let mut cons = Items::new(alloc);
-        cons.push(first)?;
-        cons.push(second)?;
-        table.add(TypeDef {
-            name: Text::from_str(alloc, name)?,
-            cons,
-        })
+        cons.push(constructor(alloc, first.0, first.1)?)?;
+        cons.push(constructor(alloc, second.0, second.1)?)?;
+        let name = Text::from_str(alloc, "T")?;
+        table.add(TypeDef { name, cons })
+    }
+
+    /// 0 ::= Enq { Int } | Deq, 1 ::= Cons { Int, 1 } | Nil, 2 ::= OfB { 3 } | Stop, 3 ::= OfA { 2 } | Twice { 2, 3 },
+    /// 4 ::= Deep { 3 } | Flat { String, Bool }
+    fn types(alloc: Global) -> Result<TypeTable, NoMemory> {
+        let mut types = TypeTable::new(alloc);
+        let a = Ty::Named(2);
+        let b = Ty::Named(3);
+        add(alloc, &mut types, ("Enq", &[Ty::Int]), ("Deq", &[]))?;
+        let list = [Ty::Int, Ty::Named(1)];
+        add(alloc, &mut types, ("Cons", &list), ("Nil", &[]))?;
+        add(alloc, &mut types, ("OfB", &[b]), ("Stop", &[]))?;
+        add(alloc, &mut types, ("OfA", &[a]), ("Twice", &[a, b]))?;
+        let flat = [Ty::Text, Ty::Bool];
+        add(alloc, &mut types, ("Deep", &[b]), ("Flat", &flat))?;
+        Ok(types)
+    }
+
+    /// A default's text, with how large and high it is.
+    fn default_text(
+        alloc: Global,
+        types: &TypeTable,
+        ty: Ty,
+    ) -> Result<Option<(Text, Extent)>, NoMemory> {
+        match default_extent(alloc, types, ty)? {
+            None => Ok(None),
+            Some(extent) => {
+                let value = default_of(alloc, types, ty)?;
+                Ok(Some((text_of(alloc, types, &value)?, extent)))
+            }
+        }
     }
 
     #[test]
     fn gives_defaults(rt: HostRuntime) -> Result<(), Fail> {
         let alloc = rt.alloc();
-        let mut types = TypeTable::new(alloc);
-        // Op ::= Enq { val :: Int } | Deq
-        let enq = constructor(alloc, "Enq", &[Ty::Int])?;
-        let deq = constructor(alloc, "Deq", &[])?;
-        add(alloc, &mut types, "Op", enq, deq)?;
-        // L ::= Cons { hd :: Int; tl :: L } | Nil
-        let cons = constructor(alloc, "Cons", &[Ty::Int, Ty::Named(1)])?;
-        let nil = constructor(alloc, "Nil", &[])?;
-        add(alloc, &mut types, "L", cons, nil)?;
-        // A ::= OfB { b :: B } | Stop, where B is ranked after A
-        let of_b = constructor(alloc, "OfB", &[Ty::Named(3)])?;
-        let stop = constructor(alloc, "Stop", &[])?;
-        add(alloc, &mut types, "A", of_b, stop)?;
-        // B ::= OfA { a :: A } | Twice { a :: A; b :: B }
-        let of_a = constructor(alloc, "OfA", &[Ty::Named(2)])?;
-        let twice = constructor(alloc, "Twice", &[Ty::Named(2), Ty::Named(3)])?;
-        add(alloc, &mut types, "B", of_a, twice)?;
-        // C ::= Deep { b :: B } | Flat { t :: String; b :: Bool }
-        let deep = constructor(alloc, "Deep", &[Ty::Named(3)])?;
-        let flat = constructor(alloc, "Flat", &[Ty::Text, Ty::Bool])?;
-        add(alloc, &mut types, "C", deep, flat)?;
+        let types = types(alloc)?;
         let table = [
-            (Ty::Int, "0"),
-            (Ty::Bool, "False"),
-            (Ty::Text, "\"\""),
-            (Ty::Named(0), "Enq(0)"),
-            (Ty::Named(1), "Nil"),
-            (Ty::Named(2), "Stop"),
-            (Ty::Named(3), "OfA(Stop)"),
-            (Ty::Named(4), "Flat(\"\",False)"),
+            (Ty::Int, "0", 1, 1),
+            (Ty::Bool, "False", 1, 1),
+            (Ty::Text, "\"\"", 1, 1),
+            (Ty::Named(0), "Enq(0)", 2, 2),
+            (Ty::Named(1), "Nil", 1, 1),
+            (Ty::Named(2), "Stop", 1, 1),
+            (Ty::Named(3), "OfA(Stop)", 2, 2),
+            (Ty::Named(4), "Flat(\"\",False)", 3, 2),
         ];
-        for (ty, want) in table {
-            let value = default_of(alloc, &types, ty)?;
-            let text = text_of(alloc, &types, &value)?;
-            assert_eq!(rt; text.as_str(), want);
+        for (ty, want, size, height) in table {
+            match default_text(alloc, &types, ty)? {
+                Some((text, extent)) => {
+                    assert_eq!(rt; text.as_str(), want);
+                    assert_eq!(rt; extent, Extent { size, height });
+                }
+                None => assert!(rt; false),
+            }
         }
+        Ok(())
+    }
+
+    /// 0 has no default, 1 a pair of numbers, and each further type a pair of the one before.
+    fn pairs(alloc: Global) -> Result<TypeTable, NoMemory> {
+        let mut types = TypeTable::new(alloc);
+        let none = Ty::Named(0);
+        add(alloc, &mut types, ("C", &[none]), ("D", &[none]))?;
+        add(
+            alloc,
+            &mut types,
+            ("E", &[Ty::Int, Ty::Int]),
+            ("F", &[none]),
+        )?;
+        for k in 1..80 {
+            let before = [Ty::Named(k), Ty::Named(k)];
+            add(alloc, &mut types, ("P", &before), ("Q", &[none]))?;
+        }
+        Ok(types)
+    }
+
+    /// How large and high the default is that is made.
+    fn made(alloc: Global, types: &TypeTable, ty: Ty) -> Result<Option<(u64, u64)>, NoMemory> {
+        match default_extent(alloc, types, ty)? {
+            None => Ok(None),
+            Some(_) => {
+                let value = default_of(alloc, types, ty)?;
+                Ok(Some((size_of(&value), height_of(&value))))
+            }
+        }
+    }
+
+    #[test]
+    fn measures_defaults(rt: HostRuntime) -> Result<(), Fail> {
+        let alloc = rt.alloc();
+        let types = pairs(alloc)?;
+        let table = [
+            (0, None),
+            (1, Some((3, 2))),
+            (2, Some((7, 3))),
+            (10, Some((2047, 11))),
+            (13, Some((16383, 14))),
+            (14, Some((32767, 15))),
+            (63, Some((u64::MAX, 64))),
+            (80, Some((u64::MAX, 81))),
+        ];
+        for (k, want) in table {
+            let extent = default_extent(alloc, &types, Ty::Named(k))?;
+            assert_eq!(rt; extent.map(|e| (e.size, e.height)), want);
+        }
+        let largest = made(alloc, &types, Ty::Named(13))?;
+        assert_eq!(rt; largest, Some((16383, 14)));
+        assert!(rt; made(alloc, &types, Ty::Named(14)).is_err());
         Ok(())
     }
 }
