@@ -256,19 +256,27 @@ mod tests {
         table.add(TypeDef { name, cons })
     }
 
+    const NUMBER: [Ty; 1] = [Ty::Int];
+
+    const NUMBER_AND_LIST: [Ty; 2] = [Ty::Int, Ty::Named(1)];
+
+    const A: [Ty; 1] = [Ty::Named(2)];
+
+    const B: [Ty; 1] = [Ty::Named(3)];
+
+    const A_AND_B: [Ty; 2] = [Ty::Named(2), Ty::Named(3)];
+
+    const TEXT_AND_TRUTH: [Ty; 2] = [Ty::Text, Ty::Bool];
+
     /// 0 ::= Enq { Int } | Deq, 1 ::= Cons { Int, 1 } | Nil, 2 ::= OfB { 3 } | Stop, 3 ::= OfA { 2 } | Twice { 2, 3 },
     /// 4 ::= Deep { 3 } | Flat { String, Bool }
     fn types(alloc: Global) -> Result<TypeTable, NoMemory> {
         let mut types = TypeTable::new(alloc);
-        let a = Ty::Named(2);
-        let b = Ty::Named(3);
-        add(alloc, &mut types, ("Enq", &[Ty::Int]), ("Deq", &[]))?;
-        let list = [Ty::Int, Ty::Named(1)];
-        add(alloc, &mut types, ("Cons", &list), ("Nil", &[]))?;
-        add(alloc, &mut types, ("OfB", &[b]), ("Stop", &[]))?;
-        add(alloc, &mut types, ("OfA", &[a]), ("Twice", &[a, b]))?;
-        let flat = [Ty::Text, Ty::Bool];
-        add(alloc, &mut types, ("Deep", &[b]), ("Flat", &flat))?;
+        add(alloc, &mut types, ("Enq", &NUMBER), ("Deq", &[]))?;
+        add(alloc, &mut types, ("Cons", &NUMBER_AND_LIST), ("Nil", &[]))?;
+        add(alloc, &mut types, ("OfB", &B), ("Stop", &[]))?;
+        add(alloc, &mut types, ("OfA", &A), ("Twice", &A_AND_B))?;
+        add(alloc, &mut types, ("Deep", &B), ("Flat", &TEXT_AND_TRUTH))?;
         Ok(types)
     }
 
