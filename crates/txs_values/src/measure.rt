@@ -40,3 +40,48 @@ pub fn height_of(value: &Value) -> u64
         }
     }
 }
+
+#[cfg(test)]
+mod tests {
+    use super::*;
+    use crate::{NoMemory, Text};
+    use sqlite_items::Items;
+    use std::alloc::Global;
+    use std::test::Fail;
+
+    fn text(alloc: Global, bytes: &str) -> Result<Value, NoMemory> {
+        Ok(Value::Text(Text::from_str(alloc, bytes)?))
+    }
+
+    fn pair(alloc: Global, left: Value, right: Value) -> Result<Value, NoMemory> {
+        let mut fields = Items::new(alloc);
+        fields.push(left)?;
+        fields.push(right)?;
+        Ok(Value::Cons { id: 0, fields })
+    }
+
+    #[test]
+    fn measures(rt: HostRuntime) -> Result<(), Fail> {
+        let alloc = rt.alloc();
+        let none = Value::Cons {
+            id: 1,
+            fields: Items::new(alloc),
+        };
+        let two = pair(alloc, Value::Int(-7), text(alloc, "abc")?)?;
+        let inner = pair(alloc, text(alloc, "ü")?, none)?;
+        let outer = pair(alloc, pair(alloc, inner, Value::Bool(true))?, two)?;
+        let table = [
+            (Value::Int(i128::MIN), 1, 1),
+            (Value::Bool(false), 1, 1),
+            (text(alloc, "")?, 1, 1),
+            (text(alloc, "abc")?, 4, 1),
+            (pair(alloc, Value::Int(0), Value::Int(1))?, 3, 2),
+            (outer, 14, 4),
+        ];
+        for (value, size, height) in &table {
+            assert_eq!(rt; size_of(value), *size);
+            assert_eq!(rt; height_of(value), *height);
+        }
+        Ok(())
+    }
+}

@@ -1,37 +1,179 @@
-ghost use Rattle.std.specs.Prelude.{◌≡◌, ◌⊎◌, MatchResult, IsUtf8};
-ghost use Rattle.txs_values.specs.Value.{Value as Meaning};
+ghost use Rattle.std.specs.Prelude.{◌≡◌, ◌≢◌, ◌↔◌, ◌⊎◌, IsUtf8, MatchResult};
+ghost use Rattle.txs_values.specs.declared.reading.Kind.TheVariants.{Wrong, Past, Deep, Broken};
+ghost use Rattle.txs_values.specs.declared.refusal.ReadValueFault.{ReadValueFault as Fault};
+ghost use Rattle.txs_values.specs.declared.refusal.ReadValueFault.TheVariants.{NotText, NoMemory};
+ghost use Rattle.txs_values.specs.Faults.{IsReadable, Refuses};
+ghost use Rattle.txs_values.specs.ReadingView.{fault_of};
 ghost use Rattle.txs_values.specs.Spelled.{IsSpelling, IsNamed, IsAllowed};
+ghost use Rattle.txs_values.specs.Value as value;
 ghost use Rattle.txs_values.specs.View.{value_of, ty_of};
-ghost use Rattle.txs_values.specs.declared.refusal.ReadValueFault.TheVariants.{NoMemory};
 
-use crate::{Ty, TypeTable, Value};
+use crate::reading::{Kind, Stop, lone};
+use crate::{Ty, TypeTable, Value, size_of};
 use std::alloc::Global;
+use thiserror::Error;
 
-#[derive(Clone, Copy, Debug, PartialEq, Eq, Drop)]
+/// Why bytes are not read as a value of a type.
+#[derive(Clone, Copy, Debug, PartialEq, Eq, Error)]
 pub enum ReadValueFault {
+    #[error("the text is not UTF-8: send it in that encoding")]
     NotText,
-    WrongForm {
-        at: usize,
-    },
-    Range {
-        at: usize,
-    },
-    TooDeep {
-        at: usize,
-    },
+    #[error("the text goes wrong at byte {at}: write a value of the type from there on")]
+    WrongForm { at: usize },
+    #[error("the number at byte {at} is past the range of Int: keep it within -2^127 to 2^127 - 1")]
+    Range { at: usize },
+    #[error("the parenthesis at byte {at} stands in 1,000 others: nest values less deeply")]
+    TooDeep { at: usize },
+    #[error("the value is larger than 16,384: make it smaller")]
     TooBig,
+    #[error("memory ran out: free some and try again")]
     NoMemory,
 }
 
+const VALUE_SIZE_LIMIT: u64 = 16_384;
+
+/// The value of this type that the bytes spell.
 pub fn read_value(
-    _alloc: Global,
+    alloc: Global,
     table: &TypeTable,
     ty: Ty,
     bytes: &[u8],
 ) -> Result<Value, ReadValueFault>
     ensures exact { IsNamed table.now → MatchResult result
         (λ v. IsUtf8 bytes.now × IsSpelling table.now (ty_of ty) (value_of v) bytes.now × IsAllowed table.now (ty_of ty) (value_of v))
-        (λ f. (f ≡ NoMemory) ⊎ ((v : Meaning) → IsUtf8 bytes.now → IsSpelling table.now (ty_of ty) v bytes.now → IsAllowed table.now (ty_of ty) v → ⊥)) }
+        (λ f. (f ≡ NoMemory) ⊎ ((v : value.Value) → IsUtf8 bytes.now → IsSpelling table.now (ty_of ty) v bytes.now → IsAllowed table.now (ty_of ty) v → ⊥)) }
+    ensures not_text { (result ≡ Err NotText) ↔ (IsUtf8 bytes.now → ⊥) }
 {
-    Err(ReadValueFault::NoMemory)
+    match std::str::from_utf8(bytes) {
+        Ok(_) => read_text(alloc, table, ty, bytes),
+        Err(_) => Err(ReadValueFault::NotText),
+    }
+}
+
+fn read_text(
+    alloc: Global,
+    table: &TypeTable,
+    ty: Ty,
+    bytes: &[u8],
+) -> Result<Value, ReadValueFault>
+    requires { IsUtf8 bytes.now }
+    ensures exact { IsNamed table.now → MatchResult result
+        (λ v. IsUtf8 bytes.now × IsSpelling table.now (ty_of ty) (value_of v) bytes.now × IsAllowed table.now (ty_of ty) (value_of v))
+        (λ f. (f ≡ NoMemory) ⊎ ((v : value.Value) → IsUtf8 bytes.now → IsSpelling table.now (ty_of ty) v bytes.now → IsAllowed table.now (ty_of ty) v → ⊥)) }
+    ensures text { result ≢ Err NotText }
+{
+    match lone(alloc, table, ty, bytes) {
+        Ok(value) => {
+            if size_of(&value) > VALUE_SIZE_LIMIT {
+                return Err(ReadValueFault::TooBig);
+            }
+            Ok(value)
+        }
+        Err(Stop::NoMemory) => Err(ReadValueFault::NoMemory),
+        Err(Stop::At(kind, left)) => Err(fault(kind, bytes.len() - left)),
+    }
+}
+
+fn fault(kind: Kind, at: usize) -> ReadValueFault
+    requires { kind ≢ Broken }
+    ensures { result ≡ fault_of kind at }
+{
+    match kind {
+        Kind::Wrong => ReadValueFault::WrongForm { at },
+        Kind::Past => ReadValueFault::Range { at },
+        Kind::Deep => ReadValueFault::TooDeep { at },
+        Kind::Broken => unreachable!(),
+    }
+}
+
+#[cfg(test)]
+mod tests {
+    use super::*;
+    use crate::{ConsDef, FieldDef, NoMemory, Text, TypeDef};
+    use sqlite_items::Items;
+    use std::test::Fail;
+
+    fn defined(
+        alloc: Global,
+        table: &mut TypeTable,
+        name: &str,
+        constructors: &[(&str, &[Ty])],
+    ) -> Result<(), NoMemory> {
+        let mut cons = Items::new(alloc);
+        for (name, types) in constructors {
+            let mut fields = Items::new(alloc);
+            for ty in *types {
+                let name = Text::from_str(alloc, "field")?;
+                fields.push(FieldDef { name, ty: *ty })?;
+            }
+            let name = Text::from_str(alloc, name)?;
+            cons.push(ConsDef { name, fields })?;
+        }
+        let name = Text::from_str(alloc, name)?;
+        table.add(TypeDef { name, cons })
+    }
+
+    const OP: Ty = Ty::Named(0);
+    const LIST: Ty = Ty::Named(1);
+    const PAIR: Ty = Ty::Named(2);
+    const WORD: Ty = Ty::Named(3);
+
+    fn types(alloc: Global) -> Result<TypeTable, NoMemory> {
+        let mut table = TypeTable::new(alloc);
+        defined(alloc, &mut table, "Op", &[("Enq", &[Ty::Int]), ("Deq", &[])])?;
+        defined(alloc, &mut table, "List", &[("Nil", &[]), ("Cons", &[Ty::Int, LIST])])?;
+        defined(alloc, &mut table, "Pair", &[("Pair", &[Ty::Bool, Ty::Text])])?;
+        defined(alloc, &mut table, "Word", &[("Word", &[]), ("Words", &[Ty::Int])])?;
+        Ok(table)
+    }
+
+    #[test]
+    fn refuses(rt: HostRuntime) -> Result<(), Fail> {
+        let table = types(rt.alloc())?;
+        let past = "170141183460469231731687303715884105728";
+        let rows: &[(Ty, &str, ReadValueFault)] = &[
+            (OP, "Enq(1", ReadValueFault::WrongForm { at: 5 }),
+            (OP, "Deq(", ReadValueFault::WrongForm { at: 3 }),
+            (OP, "", ReadValueFault::WrongForm { at: 0 }),
+            (OP, "Enx(1)", ReadValueFault::WrongForm { at: 2 }),
+            (OP, "Deqs", ReadValueFault::WrongForm { at: 3 }),
+            (OP, " Enq ( 1 ) x", ReadValueFault::WrongForm { at: 11 }),
+            (OP, "Enq(-)", ReadValueFault::WrongForm { at: 5 }),
+            (OP, "Enq(1,2)", ReadValueFault::WrongForm { at: 5 }),
+            (OP, "True", ReadValueFault::WrongForm { at: 0 }),
+            (WORD, "Wor", ReadValueFault::WrongForm { at: 3 }),
+            (WORD, "Word(", ReadValueFault::WrongForm { at: 4 }),
+            (WORD, "Wordsx", ReadValueFault::WrongForm { at: 5 }),
+            (LIST, "Cons(1)", ReadValueFault::WrongForm { at: 6 }),
+            (LIST, "Nil()", ReadValueFault::WrongForm { at: 3 }),
+            (PAIR, "Pair(Tru", ReadValueFault::WrongForm { at: 8 }),
+            (PAIR, "Pair(true,", ReadValueFault::WrongForm { at: 5 }),
+            (PAIR, "Pair(True,\"\\x\")", ReadValueFault::WrongForm { at: 12 }),
+            (PAIR, "Pair(True,\"a\tb\")", ReadValueFault::WrongForm { at: 12 }),
+            (Ty::Bool, "Truer", ReadValueFault::WrongForm { at: 4 }),
+            (Ty::Bool, "Fals(", ReadValueFault::WrongForm { at: 4 }),
+            (Ty::Text, "\"a", ReadValueFault::WrongForm { at: 2 }),
+            (Ty::Text, "\"a\\", ReadValueFault::WrongForm { at: 3 }),
+            (Ty::Int, "- 7", ReadValueFault::WrongForm { at: 1 }),
+            (Ty::Int, "1\n", ReadValueFault::WrongForm { at: 1 }),
+            (Ty::Int, past, ReadValueFault::Range { at: 0 }),
+            (
+                Ty::Int,
+                " -170141183460469231731687303715884105729 x",
+                ReadValueFault::Range { at: 1 },
+            ),
+            (
+                LIST,
+                "Cons(1,Cons( 170141183460469231731687303715884105728,x",
+                ReadValueFault::Range { at: 13 },
+            ),
+        ];
+        for (ty, text, want) in rows {
+            let got = read_value(rt.alloc(), &table, *ty, text.as_bytes());
+            assert!(rt; matches!(&got, Err(fault) if *fault == *want), "at {text}");
+        }
+        let broken = read_value(rt.alloc(), &table, Ty::Text, b"\"\xff\"");
+        assert!(rt; matches!(&broken, Err(ReadValueFault::NotText)));
+        Ok(())
+    }
 }

@@ -1,6 +1,6 @@
 ghost use Rattle.std.specs.Prelude.{◌≡◌, ◌≤◌, ◌+◌, ◌++◌, ◌∷◌, [], ℕ, List, length, OnOk, OnErr, IfSome, MatchOption, slice_get, option_map};
 ghost use Rattle.txs_values.specs.Spelling.{made_in, made_from};
-ghost use Rattle.txs_values.specs.TableView.{cons_of, conses_of, type_of, table_of, first_of, constructor_limit};
+ghost use Rattle.txs_values.specs.TableView.{cons_of, conses_of, type_of, table_of, first_of, constructor_count, constructor_limit};
 ghost use Rattle.txs_values.specs.Value.{place_of};
 
 use crate::{NoMemory, Text, Ty};
@@ -83,7 +83,8 @@ impl TypeTable {
 
     /// The types with their constructors.
     pub fn as_slice(&self) -> &[TypeDef]
-        ensures { table_of result.now ≡ self.now }
+        ensures defs { table_of result.now ≡ self.now }
+        ensures counted { constructor_count self.now ≤ constructor_limit }
     {
         self.defs.as_slice()
     }

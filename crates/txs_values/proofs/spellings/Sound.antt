@@ -4,9 +4,9 @@ use Rattle.std.proofs.lemmas.Bool.{and_from}
 use Rattle.txs_values.specs.Value.{Ty, whole, truth, string, named, Value, num, bool, text, cons, Values, no_value, and_value, Field, Table, place_of, field_types, fits, height, heights, fields_in, HasType, has_fields}
 use Rattle.txs_values.specs.Spelling.{past_blanks, Front, then_front, number_front, symbol_front, text_front, name_front, truth_named, Made, made_from, Reader, whole_front, with_truth, arguments_front, fields_front, with_made, level_front, value_front}
 use Rattle.txs_values.specs.Spelled.{AreBlanks, Spells, a_number, a_true, a_false, a_text, a_constant, a_made, SpellsEach, the_last, one_more}
-use Rattle.txs_laws.proofs.spellings.Bytes.{blanks-parts}
-use Rattle.txs_laws.proofs.spellings.Fronts.{same_some, then_front-some, symbol-parts, Number, number-parts, text-parts, name-parts, truth-named}
-use Rattle.txs_laws.proofs.spellings.Places.{made-placed}
+use Rattle.txs_values.proofs.spellings.Bytes.{blanks-parts}
+use Rattle.txs_values.proofs.spellings.Fronts.{same_some, then_front-some, symbol-parts, Number, number-parts, text-parts, name-parts, truth-named}
+use Rattle.txs_values.proofs.spellings.Places.{made-placed}
 
 -- a value that was read with this many levels left
 pub record Read (table : Table) (left : ℕ) (t : Ty) (bs : List ℕ) (f : Front Value) : Type 0 where

@@ -105,7 +105,7 @@ made-spells table c k name (f ∷ fs) v vs ws more e h each =
 -- ---- a value
 
 mutual
-  text-spells : (table : Table) (v : Value) (t : Ty) → HasType table v t → Spells table t v (text_of table v)
+  pub text-spells : (table : Table) (v : Value) (t : Ty) → HasType table v t → Spells table t v (text_of table v)
   text-spells table (num z) whole h = number-spells table z (small z h)
   text-spells table (num z) truth h = absurd (cc)
   text-spells table (num z) string h = absurd (cc)

@@ -5,23 +5,23 @@ use Rattle.std.specs.Str.Parse.{signed_digits_value}
 use Rattle.txs_values.specs.Value.{Ty, truth, string, named, Value, num, bool, text, cons, Values, no_value, and_value, Field, Table, place_of, field_types, fits, height, heights, fields_in, HasType, has_type, has_fields}
 use Rattle.txs_values.specs.Spelling.{is_blank, is_name_byte, past_blanks, then_front, number_front, symbol_front, text_front, name_front, truth_named, made_from, Reader, whole_front, with_truth, arguments_front, fields_front, with_made, level_front, value_front}
 use Rattle.txs_values.specs.Spelled.{AreBlanks, AreDigits, IsSign, no_sign, minus_sign, Spells, a_number, a_true, a_false, a_text, a_constant, a_made, SpellsEach, the_last, one_more, IsName, IsNamed}
-use Rattle.txs_laws.proofs.spellings.Bytes.{Stops, past_blanks-is, stops-blanks, letter-blank, digit-blank}
-use Rattle.txs_laws.proofs.spellings.Fronts.{then_front-is, number_front-is, text_front-is, name_front-is}
-use Rattle.txs_laws.proofs.spellings.Places.{placed-made}
+use Rattle.txs_values.proofs.spellings.Bytes.{Stops, past_blanks-is, stops-blanks, letter-blank, digit-blank}
+use Rattle.txs_values.proofs.spellings.Fronts.{then_front-is, number_front-is, text_front-is, name_front-is}
+use Rattle.txs_values.proofs.spellings.Places.{placed-made}
 
 abbrev pub Complete : Table → ℕ → Reader → Type 0
 Complete table left below = (t : Ty) (v : Value) (ws rest : List ℕ) → Spells table t v ws → HasType table v t → height v ≤ left → Stops is_name_byte rest
     → below t (ws ++ rest) ≡ Some (record { value = v; rest = rest })
 
 -- blanks before a token that begins with no blank
-token-is : (bl w rest : List ℕ) → AreBlanks bl → Stops is_blank (w ++ rest) → past_blanks ((bl ++ w) ++ rest) ≡ w ++ rest
+pub token-is : (bl w rest : List ℕ) → AreBlanks bl → Stops is_blank (w ++ rest) → past_blanks ((bl ++ w) ++ rest) ≡ w ++ rest
 token-is bl w rest h s = ap past_blanks (append_assoc bl w rest) ∙ past_blanks-is bl (w ++ rest) h s
 
-number-stops : {sign : List ℕ} → IsSign sign → (d : ℕ) (ds rest : List ℕ) → AreDigits (d ∷ ds) → Stops is_blank ((sign ++ d ∷ ds) ++ rest)
+pub number-stops : {sign : List ℕ} → IsSign sign → (d : ℕ) (ds rest : List ℕ) → AreDigits (d ∷ ds) → Stops is_blank ((sign ++ d ∷ ds) ++ rest)
 number-stops no_sign d ds rest h = digit-blank d h.0
 number-stops minus_sign d ds rest h = refl
 
-name-stops : (name rest : List ℕ) → IsName name → Stops is_blank (name ++ rest)
+pub name-stops : (name rest : List ℕ) → IsName name → Stops is_blank (name ++ rest)
 name-stops [] rest n = absurd n
 name-stops (b ∷ bs) rest n = letter-blank b n.0
 
@@ -30,7 +30,7 @@ symbol-is c ws rest h s =
     ap (symbol_front c) (past_blanks-is ws (c ∷ rest) h s) ∙ cond-true (eqb c c) (Some (record { value = true; rest = rest })) None (eq-eqb c c refl)
 
 -- the fields of a placed constructor
-fields-typed : (table : Table) (c k : ℕ) (name : List ℕ) (fs : List Field) (vs : Values)
+pub fields-typed : (table : Table) (c k : ℕ) (name : List ℕ) (fs : List Field) (vs : Values)
     → place_of table c ≡ Some (record { ty = k; constructor = record { name = name; fields = fs } })
     → HasType table (cons c vs) (named k) → has_fields table vs (Some (field_types fs)) ≡ true
 fields-typed table c k name fs vs e h =
@@ -38,13 +38,13 @@ fields-typed table c k name fs vs e h =
     ∙ ap (λ t. has_fields table vs (cond t (Some (field_types fs)) None)) (eq-eqb k k refl)) ∙ h
 
 -- a comma between, and a parenthesis behind
-comma-joined : (ws before more tail : List ℕ) → (ws ++ (before ++ (44 ∷ more))) ++ tail ≡ ws ++ (before ++ 44 ∷ (more ++ tail))
+pub comma-joined : (ws before more tail : List ℕ) → (ws ++ (before ++ (44 ∷ more))) ++ tail ≡ ws ++ (before ++ 44 ∷ (more ++ tail))
 comma-joined ws before more tail = simp append_assoc
 
-made-joined : (before ws behind rest : List ℕ) → (before ++ (40 ∷ (ws ++ (behind ++ 41 ∷ [])))) ++ rest ≡ before ++ 40 ∷ (ws ++ (behind ++ 41 ∷ rest))
+pub made-joined : (before ws behind rest : List ℕ) → (before ++ (40 ∷ (ws ++ (behind ++ 41 ∷ [])))) ++ rest ≡ before ++ 40 ∷ (ws ++ (behind ++ 41 ∷ rest))
 made-joined before ws behind rest = simp append_assoc
 
-same_types : {t u : Ty} {ts us : List Ty} → t ∷ ts ≡ u ∷ us → (t ≡ u) × (ts ≡ us)
+pub same_types : {t u : Ty} {ts us : List Ty} → t ∷ ts ≡ u ∷ us → (t ≡ u) × (ts ≡ us)
 same_types e = (cc, cc)
 
 module _ (table : Table) (is_named : IsNamed table) (left : ℕ) (below : Reader) (complete : Complete table left below) where
@@ -130,7 +130,7 @@ module _ (table : Table) (is_named : IsNamed table) (left : ℕ) (below : Reader
       shift : (all tail : List ℕ) → (bl ++ (name ++ (before ++ (40 ∷ (ws ++ (behind ++ 41 ∷ [])))))) ++ rest ≡ bl ++ (name ++ (before ++ 40 ∷ (ws ++ (behind ++ 41 ∷ rest))))
       shift all tail = simp append_assoc
 
-height-some : (v : Value) → 1 ≤ height v
+pub height-some : (v : Value) → 1 ≤ height v
 height-some (num x) = omega arith
 height-some (bool b) = omega arith
 height-some (text bs) = omega arith

@@ -6,7 +6,7 @@ use Rattle.std.specs.Str.{bytes_eq}
 use Rattle.txs_values.specs.Value.{Field, Constructor, Table, Place, place_in, place_from, place_of}
 use Rattle.txs_values.specs.Spelling.{Made, made_in, made_from, count_of}
 use Rattle.txs_values.specs.Spelled.{IsNamed}
-use Rattle.txs_laws.proofs.spellings.Fronts.{same_some}
+use Rattle.txs_values.proofs.spellings.Fronts.{same_some}
 
 -- ---- what is found by its name has its place
 
@@ -104,7 +104,7 @@ same_fields : {j k : ℕ} {a b : List ℕ} {fs gs : List Field} → ◌≡◌ {A
 same_fields e = ap (λ (p : Place). p.constructor.fields) (same_some e)
 
 -- what is found by the name has the number and the fields, as no two are called the same
-found-same : (table : Table) → IsNamed table → (c k : ℕ) (name : List ℕ) (fs : List Field) (m : Made)
+pub found-same : (table : Table) → IsNamed table → (c k : ℕ) (name : List ℕ) (fs : List Field) (m : Made)
     → place_of table c ≡ Some (record { ty = k; constructor = record { name = name; fields = fs } })
     → place_of table m.number ≡ Some (record { ty = k; constructor = record { name = name; fields = m.fields } })
     → (m.number ≡ c) × (m.fields ≡ fs)
@@ -112,7 +112,7 @@ found-same table named c k name fs m h q =
     let s : m.number ≡ c = named.distinct m.number c (record { ty = k; constructor = record { name = name; fields = m.fields } }) (record { ty = k; constructor = record { name = name; fields = fs } }) q h refl in
     (s, same_fields (sym q ∙ ap (place_of table) s ∙ h))
 
-same_made : (m : Made) (c : ℕ) (fs : List Field) → m.number ≡ c → m.fields ≡ fs → m ≡ record { number = c; fields = fs }
+pub same_made : (m : Made) (c : ℕ) (fs : List Field) → m.number ≡ c → m.fields ≡ fs → m ≡ record { number = c; fields = fs }
 same_made m c fs e h = ap (λ i. record { number = i; fields = m.fields }) e ∙ ap (λ (l : List Field). record { number = c; fields = l }) h
 
 pub placed-made : (table : Table) → IsNamed table → (c k : ℕ) (name : List ℕ) (fs : List Field)

@@ -6,7 +6,7 @@ use Rattle.std.specs.Str.{bytes_eq}
 use Rattle.std.specs.Str.Parse.{signed_digits_value}
 use Rattle.txs_values.specs.Spelling.{is_digit, is_letter, is_name_byte, is_raw, escape_of, run_of, past_run, Front, then_front, digits_front, number_front, symbol_front, with_byte, with_escape, quoted_front, text_front, name_front, truth_named}
 use Rattle.txs_values.specs.Spelled.{AreDigits, IsSign, no_sign, minus_sign, Quotes, nothing, as_it_is, escaped_by, IsName}
-use Rattle.txs_laws.proofs.spellings.Bytes.{Each, Stops, digits-each, each-digits, name-each, run-each, run-parts, run-append, past-append, digit-minus, stops-digit}
+use Rattle.txs_values.proofs.spellings.Bytes.{Each, Stops, digits-each, each-digits, name-each, run-each, run-parts, run-append, past-append, digit-minus, stops-digit}
 
 pub same_some : {A : Type 0} {x y : A} → Some x ≡ Some y → x ≡ y
 same_some e = cc

@@ -1,0 +1,7 @@
+use Rattle.std.proofs.Common.{◌∙◌}
+use Rattle.txs_values.proofs.Rounds.{built-ok}
+use Rattle.txs_values.specs.View.{ty_of}
+use Rattle.txs_values.proofs.default.default_of.Goals as goal
+
+pub returns : goal.returns
+returns c = built-ok c.as_slice.result.now c.args.table.now c.as_slice-in-Some.result.now (ty_of c.args.ty) 1000 c.build.result c.as_slice.ensures.defs (c.as_slice-in-Some.ensures ∙ c.in_ok-found.ensures) c.build.ensures

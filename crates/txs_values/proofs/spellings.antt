@@ -1,0 +1,17 @@
+pub mod Bytes
+pub mod Fronts
+pub mod Places
+pub mod Sound
+pub mod Complete
+pub mod Written
+pub mod Found
+pub mod Tokens
+pub mod Names
+pub mod Starts
+pub mod Levels
+pub mod Soundness
+pub mod Finds
+pub mod Utf8
+pub mod Lone
+pub mod Reaches
+pub mod Directions
