@@ -6,3 +6,4 @@ pub mod Sizes
 pub mod Steps
 pub mod Nodes
 pub mod Meaning
+pub mod Readings

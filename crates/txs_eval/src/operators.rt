@@ -1,9 +1,11 @@
-ghost use Rattle.std.specs.Prelude.{◌≡◌, slice_get};
+ghost use Rattle.std.specs.Prelude.{◌≡◌, ◌≢◌, slice_get};
 ghost use Rattle.txs_values.specs.Spelled.{IsNamed};
 ghost use Rattle.txs_values.specs.View.{value_of, values_of, ty_of};
 ghost use Rattle.txs_terms.specs.Eval as spec;
 ghost use Rattle.txs_terms.specs.Expr.{to_text};
 ghost use Rattle.txs_terms.specs.View.{unary_of, binary_of};
+ghost use Rattle.txs_values.specs.declared.refusal.ReadValueFault.TheVariants.{NoMemory as wanting};
+ghost use Rattle.txs_eval.specs.declared.fault.Stop.TheVariants.{NoMemory, Form};
 ghost use Rattle.txs_eval.specs.Answer.{Comes};
 
 use crate::equality::same;
@@ -30,10 +32,24 @@ fn read(alloc: Global, table: &TypeTable, ty: Ty, text: &Text) -> Result<Value, 
     if ty == Ty::Text {
         return Ok(Value::Text(text.copy(alloc)?));
     }
-    match read_value(alloc, table, ty, text.as_bytes()) {
+    match read_value(alloc, table, ty, text.as_str().as_bytes()) {
         Ok(value) => Ok(value),
-        Err(ReadValueFault::NoMemory) => Err(Stop::NoMemory),
-        Err(_) => Err(Stop::Form),
+        Err(fault) => Err(unread(fault)),
+    }
+}
+
+/// A text that is no spelling of an allowed value, be it for its form or for a limit.
+fn unread(fault: ReadValueFault) -> Stop
+    ensures wanting { fault ≡ wanting → result ≡ NoMemory }
+    ensures form { fault ≢ wanting → result ≡ Form }
+{
+    match fault {
+        ReadValueFault::NoMemory => Stop::NoMemory,
+        ReadValueFault::NotText => Stop::Form,
+        ReadValueFault::WrongForm { .. } => Stop::Form,
+        ReadValueFault::Range { .. } => Stop::Form,
+        ReadValueFault::TooDeep { .. } => Stop::Form,
+        ReadValueFault::TooBig => Stop::Form,
     }
 }
 
