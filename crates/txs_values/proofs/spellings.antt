@@ -15,3 +15,4 @@ pub mod Utf8
 pub mod Lone
 pub mod Reaches
 pub mod Directions
+pub mod Firsts

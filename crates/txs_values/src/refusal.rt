@@ -43,6 +43,7 @@ pub fn read_value(
         (λ v. IsUtf8 bytes.now × IsSpelling table.now (ty_of ty) (value_of v) bytes.now × IsAllowed table.now (ty_of ty) (value_of v))
         (λ f. (f ≡ NoMemory) ⊎ ((v : value.Value) → IsUtf8 bytes.now → IsSpelling table.now (ty_of ty) v bytes.now → IsAllowed table.now (ty_of ty) v → ⊥)) }
     ensures not_text { (result ≡ Err NotText) ↔ (IsUtf8 bytes.now → ⊥) }
+    ensures refused { IsReadable table.now (ty_of ty) → result ≢ Err NoMemory → (f : Fault) → f ≢ NoMemory → (result ≡ Err f) ↔ Refuses table.now (ty_of ty) bytes.now f }
 {
     match std::str::from_utf8(bytes) {
         Ok(_) => read_text(alloc, table, ty, bytes),
@@ -61,6 +62,7 @@ fn read_text(
         (λ v. IsUtf8 bytes.now × IsSpelling table.now (ty_of ty) (value_of v) bytes.now × IsAllowed table.now (ty_of ty) (value_of v))
         (λ f. (f ≡ NoMemory) ⊎ ((v : value.Value) → IsUtf8 bytes.now → IsSpelling table.now (ty_of ty) v bytes.now → IsAllowed table.now (ty_of ty) v → ⊥)) }
     ensures text { result ≢ Err NotText }
+    ensures refused { IsReadable table.now (ty_of ty) → result ≢ Err NoMemory → (f : Fault) → f ≢ NoMemory → (result ≡ Err f) ↔ Refuses table.now (ty_of ty) bytes.now f }
 {
     match lone(alloc, table, ty, bytes) {
         Ok(value) => {

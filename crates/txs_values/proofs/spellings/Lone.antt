@@ -71,6 +71,11 @@ lone-read table t bs r v e small =
     let w = g.spelled in
     (subst (IsSpelling table t v) (sym (g.whole ∙ append-nil g.used)) w.spelling, record { typed = w.typed; small = small; low = w.low })
 
+pub lone-spelled : (table : Table) (t : Ty) (bs : List ℕ) (v : Value) → lone_read table t bs ≡ ok v [] → IsSpelling table t v bs
+lone-spelled table t bs v e =
+    let g : Got (IsReadable table t) (lone_read table t) (Whole table t) bs v [] = subst (λ (o : Outcome Value). Found (IsReadable table t) (lone_read table t) (Whole table t) (Here table t) bs o) e (lone-sound table t bs) in
+    subst (IsSpelling table t v) (sym (g.whole ∙ append-nil g.used)) g.spelled.spelling
+
 -- ---- a stop
 
 pub lone-left : (table : Table) (t : Ty) (bs : List ℕ) (k : Kind) (n : ℕ) → lone_read table t bs ≡ stop k n → Left (IsReadable table t) (lone_read table t) (Here table t) bs k n
