@@ -16,3 +16,4 @@ pub mod Lone
 pub mod Reaches
 pub mod Directions
 pub mod Firsts
+pub mod Ones

@@ -91,7 +91,7 @@ fn fault(kind: Kind, at: usize) -> ReadValueFault
 #[cfg(test)]
 mod tests {
     use super::*;
-    use crate::{ConsDef, FieldDef, NoMemory, Text, TypeDef};
+    use crate::{Bytes, ConsDef, FieldDef, NoMemory, Text, TypeDef, text_of};
     use sqlite_items::Items;
     use std::test::Fail;
 
@@ -176,6 +176,96 @@ mod tests {
         }
         let broken = read_value(rt.alloc(), &table, Ty::Text, b"\"\xff\"");
         assert!(rt; matches!(&broken, Err(ReadValueFault::NotText)));
+        Ok(())
+    }
+
+    #[test]
+    fn reads(rt: HostRuntime) -> Result<(), Fail> {
+        let table = types(rt.alloc())?;
+        let rows = [
+            (OP, " Enq ( 007 ) ", "Enq(7)"),
+            (OP, "\tDeq ", "Deq"),
+            (Ty::Int, "-0", "0"),
+            (Ty::Int, " -0012\t", "-12"),
+            (
+                Ty::Int,
+                "-170141183460469231731687303715884105728",
+                "-170141183460469231731687303715884105728",
+            ),
+            (Ty::Bool, " True", "True"),
+            (Ty::Bool, "False ", "False"),
+            (Ty::Text, " \"a\\n\\\"\\t\" ", "\"a\\n\\\"\\t\""),
+            (PAIR, "Pair( False ,\"\u{e9}(\" )", "Pair(False,\"\u{e9}(\")"),
+            (LIST, "Cons(1, Cons (-2,Nil))", "Cons(1,Cons(-2,Nil))"),
+            (WORD, "Word", "Word"),
+            (WORD, "Words(3)", "Words(3)"),
+        ];
+        for (ty, text, want) in rows {
+            match read_value(rt.alloc(), &table, ty, text.as_bytes()) {
+                Ok(value) => {
+                    let written = text_of(rt.alloc(), &table, &value)?;
+                    assert_eq!(rt; written.as_str(), want);
+                }
+                Err(_) => assert!(rt; false, "at {text}"),
+            }
+        }
+        Ok(())
+    }
+
+    fn with(
+        alloc: Global,
+        front: &str,
+        piece: &str,
+        count: usize,
+        behind: &str,
+    ) -> Result<Bytes, NoMemory> {
+        let mut bytes = Bytes::new(alloc);
+        bytes.extend(front.as_bytes())?;
+        for _ in 0..count {
+            bytes.extend(piece.as_bytes())?;
+        }
+        bytes.extend(behind.as_bytes())?;
+        Ok(bytes)
+    }
+
+    // the parenthesis of the thousandth Cons stands at 999 * 7 + 4
+    #[test]
+    fn refuses_past_limits(rt: HostRuntime) -> Result<(), Fail> {
+        let table = types(rt.alloc())?;
+        let deep = ReadValueFault::TooDeep { at: 6_997 };
+        let past = "Cons(170141183460469231731687303715884105728,";
+        let rows = [
+            (OP, "", "(", 1_000_000, "", ReadValueFault::WrongForm { at: 0 }),
+            (LIST, "", "Cons(1,", 100_000, "", deep),
+            (LIST, "", "Cons(1,", 1_000, "x", deep),
+            (LIST, "", "Cons(1,", 999, "Cons[", ReadValueFault::WrongForm { at: 6_997 }),
+            (LIST, past, "Cons(1,", 1_000, "", ReadValueFault::Range { at: 5 }),
+            (Ty::Int, "", "9", 1_048_576, "", ReadValueFault::Range { at: 0 }),
+            (Ty::Text, "\"", "a", 1_048_574, "\"", ReadValueFault::TooBig),
+            (Ty::Text, "\"", "a", 16_384, "\"", ReadValueFault::TooBig),
+            (Ty::Text, "\"", "a", 20_000, "\" x", ReadValueFault::WrongForm { at: 20_003 }),
+        ];
+        for (ty, front, piece, count, behind, want) in rows {
+            let bytes = with(rt.alloc(), front, piece, count, behind)?;
+            let got = read_value(rt.alloc(), &table, ty, bytes.as_slice());
+            assert!(rt; matches!(&got, Err(fault) if *fault == want), "at {front}{piece}{count}{behind}");
+        }
+        Ok(())
+    }
+
+    #[test]
+    fn reads_up_to_limits(rt: HostRuntime) -> Result<(), Fail> {
+        let table = types(rt.alloc())?;
+        let zeros = with(rt.alloc(), "", "0", 1_048_576, "")?;
+        let zero = read_value(rt.alloc(), &table, Ty::Int, zeros.as_slice());
+        assert!(rt; matches!(&zero, Ok(Value::Int(0))));
+        let letters = with(rt.alloc(), "\"", "a", 16_383, "\"")?;
+        let text = read_value(rt.alloc(), &table, Ty::Text, letters.as_slice());
+        assert!(rt; text.is_ok());
+        let mut whole = with(rt.alloc(), "", "Cons(1,", 999, "Nil")?;
+        whole.extend(with(rt.alloc(), "", ")", 999, "")?.as_slice())?;
+        let list = read_value(rt.alloc(), &table, LIST, whole.as_slice());
+        assert!(rt; list.is_ok());
         Ok(())
     }
 }

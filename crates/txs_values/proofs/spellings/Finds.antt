@@ -102,7 +102,7 @@ true-is rest s = ap (λ o. either (after o (λ _ r. ok (bool true) r)) (after (n
 false-is : (rest : List ℕ) → Stops is_name_byte rest → truth_read (codes "False" ++ rest) ≡ ok (bool false) rest
 false-is rest s = ap (λ o. either (stop Wrong (length (codes "False" ++ rest))) (after o (λ _ r. ok (bool false) r))) (name-is (codes "False") rest (stops-goes rest s))
 
-quoted-is : {a ws : List ℕ} → Quotes a ws → (rest : List ℕ) → quoted_read false (ws ++ 34 ∷ rest) ≡ ok a rest
+pub quoted-is : {a ws : List ℕ} → Quotes a ws → (rest : List ℕ) → quoted_read false (ws ++ 34 ∷ rest) ≡ ok a rest
 quoted-is nothing rest = refl
 quoted-is (as_it_is {bs = a} {ws = ws} b x y z q) rest =
     cond-false (eqb b 34) (ok [] (ws ++ 34 ∷ rest)) (cond (eqb b 92) (quoted_read true (ws ++ 34 ∷ rest)) (cond (is_raw b) (stop Wrong (length (b ∷ (ws ++ 34 ∷ rest)))) (with_front (b ∷ []) (quoted_read false (ws ++ 34 ∷ rest))))) x

@@ -9,7 +9,7 @@ use Rattle.txs_values.specs.Value.{Ty, whole, named, Value, num, Field, Table, p
 use Rattle.txs_values.specs.Text.{text_of}
 use Rattle.txs_values.specs.Spelling.{is_digit}
 use Rattle.txs_values.specs.Spelled.{AreBlanks, IsSign, no_sign, minus_sign, AreDigits, Spells, a_number, IsSpelling}
-use Rattle.txs_values.specs.Faults.{IsReadable, Begins, Stands, no_more, Reason, wrong_form, past_range, too_deep, IsWrong, IsPast, IsDeep, Applies, IsCause, IsFirst}
+use Rattle.txs_values.specs.Faults.{IsReadable, Begins, Stands, no_more, Reason, wrong_form, past_range, too_deep, IsWrong, IsOutOfRange, IsDeep, Applies, IsCause, IsFirst}
 use Rattle.txs_values.specs.Reading.{Outcome, ok, stop, lone_read, levels_below}
 use Rattle.txs_values.proofs.spellings.Fronts.{same_list}
 use Rattle.txs_values.proofs.spellings.Written.{text-spells}
@@ -31,7 +31,7 @@ reason_of Broken = wrong_form
 module _ (table : Table) (t : Ty) (readable : IsReadable table t) where
   -- ---- the front begins a spelling
 
-  number-begins : (p r : List ℕ) → IsPast table t p r → BeginsIn table t p
+  number-begins : (p r : List ℕ) → IsOutOfRange table t p r → BeginsIn table t p
   number-begins p r h =
       subst (BeginsIn table t) (ap (λ (l : List ℕ). h.front ++ l) (append-nil h.blanks) ∙ sym h.before)
       (stands-begins table t readable h.stands (h.blanks ++ []) (blanks-begin table whole (stands-valued table t readable h.stands) h.blanks h.are_blanks))
@@ -40,7 +40,7 @@ module _ (table : Table) (t : Ty) (readable : IsReadable table t) where
   abbrev Longer : List ℕ → List ℕ → Type 0
   Longer p r = (q : List ℕ) × (more : List ℕ) × (r ≡ q ++ more) × (1 ≤ length q) × Begins table t (p ++ q)
 
-  number-more : (p r : List ℕ) → IsPast table t p r → Longer p r
+  number-more : (p r : List ℕ) → IsOutOfRange table t p r → Longer p r
   number-more p r h =
       let run : List ℕ = h.sign ++ h.first ∷ h.digits in
       let n = length-append h.sign (h.first ∷ h.digits) in
@@ -188,7 +188,7 @@ module _ (table : Table) (t : Ty) (readable : IsReadable table t) where
 
   -- ---- only one is the first
 
-  bytes-differ : (p r q s : List ℕ) → p ++ r ≡ q ++ s → length p ≡ length q → IsPast table t p r → IsDeep table t q s → ⊥
+  bytes-differ : (p r q s : List ℕ) → p ++ r ≡ q ++ s → length p ≡ length q → IsOutOfRange table t p r → IsDeep table t q s → ⊥
   bytes-differ p r q s e l x y =
       let i : length (p ++ r) ≡ length (q ++ s) = ap length e in
       let a = length-append p r in

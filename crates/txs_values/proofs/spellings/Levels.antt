@@ -9,7 +9,7 @@ use Rattle.txs_values.specs.declared.reading.Kind.TheVariants.{Wrong, Past, Deep
 use Rattle.txs_values.specs.Value.{Ty, whole, truth, string, named, Value, num, bool, text, cons, Values, no_value, and_value, packed, Field, Table, place_of, field_types, fits, fields_in, HasType, has_type, has_fields, height, heights, value_height_limit}
 use Rattle.txs_values.specs.Spelling.{past_blanks, Made}
 use Rattle.txs_values.specs.Spelled.{AreBlanks, IsSign, Quotes, escaped_by, nothing, Spells, a_number, a_true, a_false, a_text, a_constant, a_made, SpellsEach, the_last, one_more}
-use Rattle.txs_values.specs.Faults.{IsReadable, Begins, Leads, no_more, one_before, Stands, as_whole, as_argument, IsPast, IsDeep}
+use Rattle.txs_values.specs.Faults.{IsReadable, Begins, Leads, no_more, one_before, Stands, as_whole, as_argument, IsOutOfRange, IsDeep}
 use Rattle.txs_values.specs.Reading.{Outcome, ok, stop, after, either, with_front, symbol_here, symbol, number_read, goes_on, name_read, truth_read, quoted_read, text_read, made_read, Reader, mark_behind, arguments_read, full_read, enclosed_read, fields_read, level_read, value_read}
 use Rattle.txs_values.proofs.spellings.Found.{head, Got, Left, Found, Sound, head-none, head-some, found-ok, found-wrong, sound_after, sound_front, found-map, sound_map, sound_blanks}
 use Rattle.txs_values.proofs.spellings.Tokens.{sound_symbol_here, IsWhole, IsPastHere, sound_number, sound_name, BeginsName, name-is, sound_quoted, IsBroken, Before, QuotedBy, BeginsQuoted}
@@ -19,7 +19,7 @@ use Rattle.txs_values.proofs.spellings.Starts.{BeginsIn, begins-front, begins-wh
 -- what is wrong, where the bytes in front are p and r is left
 abbrev pub Here : Table → Ty → Kind → List ℕ → List ℕ → Type 0
 Here table t Wrong p r = IsReadable table t → Begins table t p
-Here table t Past p r = IsPast table t p r
+Here table t Past p r = IsOutOfRange table t p r
 Here table t Deep p r = IsDeep table t p r
 Here table t Broken p r = IsBroken r
 

@@ -7,7 +7,7 @@ use Rattle.txs_values.specs.declared.reading.Kind.TheVariants.{Wrong, Past, Deep
 use Rattle.txs_values.specs.Value.{Ty, whole, named, Value, num, cons, packed, Field, Table, place_of, field_types, fits, value_height_limit}
 use Rattle.txs_values.specs.Spelling.{past_blanks, is_digit, is_name_byte}
 use Rattle.txs_values.specs.Spelled.{AreBlanks, AreDigits, IsSign, Spells, IsNamed}
-use Rattle.txs_values.specs.Faults.{NoDigit, Leads, no_more, one_before, Stands, as_whole, as_argument, IsPast, IsDeep}
+use Rattle.txs_values.specs.Faults.{NoDigit, Leads, no_more, one_before, Stands, as_whole, as_argument, IsOutOfRange, IsDeep}
 use Rattle.txs_values.specs.Reading.{Outcome, ok, stop, after, with_front, symbol, number_read, Reader, mark_behind, arguments_read, full_read, enclosed_read, fields_read, level_read, value_read, levels_below, ended, lone_read}
 use Rattle.txs_values.proofs.spellings.Bytes.{Stops, stops-blanks, past_blanks-is}
 use Rattle.txs_values.proofs.spellings.Complete.{token-is, number-stops, name-stops, same_types}
@@ -173,7 +173,7 @@ module _ (table : Table) (t : Ty) (is_named : IsNamed table) where
   shorter : (a b : List ℕ) → length b ≤ length (a ++ b)
   shorter a b = let n = length-append a b in omega (arith, n)
 
-  pub past-early : (p r : List ℕ) → IsPast table t p r → Early (lone_read table t (p ++ r)) r
+  pub past-early : (p r : List ℕ) → IsOutOfRange table t p r → Early (lone_read table t (p ++ r)) r
   past-early p r h =
       let run : List ℕ = h.sign ++ h.first ∷ h.digits in
       let s = signed-run h.is_sign h.first h.digits h.more h.are_digits (digit-stops h.more h.ends) in

@@ -9,7 +9,7 @@ use Rattle.txs_values.specs.Value.{Ty, whole, truth, string, named, Value, num, 
 use Rattle.txs_values.specs.Spelling.{past_blanks, is_blank, is_digit, Made}
 use Rattle.txs_values.proofs.spellings.Bytes.{Stops}
 use Rattle.txs_values.specs.Spelled.{AreBlanks, IsSign, no_sign, minus_sign, Quotes, nothing, Spells, a_number, a_true, a_false, a_text, a_constant, a_made, SpellsEach, the_last, one_more}
-use Rattle.txs_values.specs.Faults.{HaveValues, NoDigit, IsReadable, Begins, Leads, no_more, one_before, Stands, as_whole, as_argument, IsPast, IsDeep}
+use Rattle.txs_values.specs.Faults.{HaveValues, NoDigit, IsReadable, Begins, Leads, no_more, one_before, Stands, as_whole, as_argument, IsOutOfRange, IsDeep}
 use Rattle.txs_values.specs.Reading.{Outcome, ok, stop, after, with_front, symbol_here, symbol, number_read, truth_read, text_read, made_read, Reader, mark_behind, arguments_read, full_read, enclosed_read, fields_read, level_read, value_read}
 use Rattle.txs_values.proofs.spellings.Found.{head, Got, Left, Found, Sound, head-none, head-some, found-ok, found-wrong, sound_after, sound_front, found-map, sound_map, sound_blanks}
 use Rattle.txs_values.proofs.spellings.Tokens.{sound_symbol_here, IsWhole, IsPastHere, sound_number, IsBroken}
