@@ -1,5 +1,5 @@
 -- What is told of a text that is read as a value.
-use Rattle.std.proofs.Common.{◌≡◌, ◌≤◌, ◌<◌, ◌-◌, ◌↔◌, ℕ, min, Result, Ok, Err, List, [], ◌∷◌, ◌++◌, length, length-append, refl, sym, ap, subst, ◌∙◌, arith}
+use Rattle.std.proofs.Common.{◌≡◌, ◌≤◌, ◌<◌, ◌-◌, ◌↔◌, ℕ, min, Result, Ok, Err, List, [], ◌++◌, length, length-append, refl, sym, ap, subst, ◌∙◌, arith}
 use Rattle.txs_values.specs.declared.reading.Kind.{Kind}
 use Rattle.txs_values.specs.declared.reading.Kind.TheVariants.{Wrong, Past, Deep, Broken}
 use Rattle.txs_values.specs.declared.refusal.ReadValueFault.{ReadValueFault}
@@ -9,9 +9,8 @@ use Rattle.txs_values.specs.declared.reading.Stop.{Stop}
 use Rattle.txs_values.specs.declared.reading.Stop.TheVariants.{At}
 use Rattle.txs_values.specs.Reading.{Outcome, lone_read, ok, stop}
 use Rattle.txs_values.specs.Value.{Ty, Value, Table, size, value_size_limit}
-use Rattle.txs_values.specs.Spelled.{IsSpelling, IsNamed, IsAllowed}
 use Rattle.std.specs.Str.{IsUtf8}
-use Rattle.txs_values.specs.Faults.{IsReadable, Reason, wrong_form, past_range, too_deep, IsCause, IsFirst, IsTooBig, Refuses}
+use Rattle.txs_values.specs.Faults.{IsReadable, Reason, wrong_form, past_range, too_deep, IsCause, IsFirst, Refuses}
 use Rattle.txs_values.proofs.spellings.Lone.{lone-left, lone-unbroken, lone-spelled, lone-same}
 use Rattle.txs_values.proofs.spellings.Firsts.{reason_of, first-here, same-first, read-sound}
 

@@ -116,16 +116,39 @@ mod tests {
     }
 
     const OP: Ty = Ty::Named(0);
+
     const LIST: Ty = Ty::Named(1);
+
     const PAIR: Ty = Ty::Named(2);
+
     const WORD: Ty = Ty::Named(3);
 
     fn types(alloc: Global) -> Result<TypeTable, NoMemory> {
         let mut table = TypeTable::new(alloc);
-        defined(alloc, &mut table, "Op", &[("Enq", &[Ty::Int]), ("Deq", &[])])?;
-        defined(alloc, &mut table, "List", &[("Nil", &[]), ("Cons", &[Ty::Int, LIST])])?;
-        defined(alloc, &mut table, "Pair", &[("Pair", &[Ty::Bool, Ty::Text])])?;
-        defined(alloc, &mut table, "Word", &[("Word", &[]), ("Words", &[Ty::Int])])?;
+        defined(
+            alloc,
+            &mut table,
+            "Op",
+            &[("Enq", &[Ty::Int]), ("Deq", &[])],
+        )?;
+        defined(
+            alloc,
+            &mut table,
+            "List",
+            &[("Nil", &[]), ("Cons", &[Ty::Int, LIST])],
+        )?;
+        defined(
+            alloc,
+            &mut table,
+            "Pair",
+            &[("Pair", &[Ty::Bool, Ty::Text])],
+        )?;
+        defined(
+            alloc,
+            &mut table,
+            "Word",
+            &[("Word", &[]), ("Words", &[Ty::Int])],
+        )?;
         Ok(table)
     }
 
@@ -150,8 +173,16 @@ mod tests {
             (LIST, "Nil()", ReadValueFault::WrongForm { at: 3 }),
             (PAIR, "Pair(Tru", ReadValueFault::WrongForm { at: 8 }),
             (PAIR, "Pair(true,", ReadValueFault::WrongForm { at: 5 }),
-            (PAIR, "Pair(True,\"\\x\")", ReadValueFault::WrongForm { at: 12 }),
-            (PAIR, "Pair(True,\"a\tb\")", ReadValueFault::WrongForm { at: 12 }),
+            (
+                PAIR,
+                "Pair(True,\"\\x\")",
+                ReadValueFault::WrongForm { at: 12 },
+            ),
+            (
+                PAIR,
+                "Pair(True,\"a\tb\")",
+                ReadValueFault::WrongForm { at: 12 },
+            ),
             (Ty::Bool, "Truer", ReadValueFault::WrongForm { at: 4 }),
             (Ty::Bool, "Fals(", ReadValueFault::WrongForm { at: 4 }),
             (Ty::Text, "\"a", ReadValueFault::WrongForm { at: 2 }),
@@ -195,7 +226,11 @@ mod tests {
             (Ty::Bool, " True", "True"),
             (Ty::Bool, "False ", "False"),
             (Ty::Text, " \"a\\n\\\"\\t\" ", "\"a\\n\\\"\\t\""),
-            (PAIR, "Pair( False ,\"\u{e9}(\" )", "Pair(False,\"\u{e9}(\")"),
+            (
+                PAIR,
+                "Pair( False ,\"\u{e9}(\" )",
+                "Pair(False,\"\u{e9}(\")",
+            ),
             (LIST, "Cons(1, Cons (-2,Nil))", "Cons(1,Cons(-2,Nil))"),
             (WORD, "Word", "Word"),
             (WORD, "Words(3)", "Words(3)"),
@@ -235,20 +270,58 @@ mod tests {
         let deep = ReadValueFault::TooDeep { at: 6_997 };
         let past = "Cons(170141183460469231731687303715884105728,";
         let rows = [
-            (OP, "", "(", 1_000_000, "", ReadValueFault::WrongForm { at: 0 }),
+            (
+                OP,
+                "",
+                "(",
+                1_000_000,
+                "",
+                ReadValueFault::WrongForm { at: 0 },
+            ),
             (LIST, "", "Cons(1,", 100_000, "", deep),
             (LIST, "", "Cons(1,", 1_000, "x", deep),
-            (LIST, "", "Cons(1,", 999, "Cons[", ReadValueFault::WrongForm { at: 6_997 }),
-            (LIST, past, "Cons(1,", 1_000, "", ReadValueFault::Range { at: 5 }),
-            (Ty::Int, "", "9", 1_048_576, "", ReadValueFault::Range { at: 0 }),
+            (
+                LIST,
+                "",
+                "Cons(1,",
+                999,
+                "Cons[",
+                ReadValueFault::WrongForm { at: 6_997 },
+            ),
+            (
+                LIST,
+                past,
+                "Cons(1,",
+                1_000,
+                "",
+                ReadValueFault::Range { at: 5 },
+            ),
+            (
+                Ty::Int,
+                "",
+                "9",
+                1_048_576,
+                "",
+                ReadValueFault::Range { at: 0 },
+            ),
             (Ty::Text, "\"", "a", 1_048_574, "\"", ReadValueFault::TooBig),
             (Ty::Text, "\"", "a", 16_384, "\"", ReadValueFault::TooBig),
-            (Ty::Text, "\"", "a", 20_000, "\" x", ReadValueFault::WrongForm { at: 20_003 }),
+            (
+                Ty::Text,
+                "\"",
+                "a",
+                20_000,
+                "\" x",
+                ReadValueFault::WrongForm { at: 20_003 },
+            ),
         ];
         for (ty, front, piece, count, behind, want) in rows {
             let bytes = with(rt.alloc(), front, piece, count, behind)?;
             let got = read_value(rt.alloc(), &table, ty, bytes.as_slice());
-            assert!(rt; matches!(&got, Err(fault) if *fault == want), "at {front}{piece}{count}{behind}");
+            assert!(rt;
+                matches!(&got, Err(fault) if *fault == want),
+                "at {front}{piece}{count}{behind}"
+            );
         }
         Ok(())
     }

@@ -1,23 +1,23 @@
 -- The reader's stop is the first of what is wrong.
-use Rattle.std.proofs.Common.{◌≡◌, ◌≢◌, ℕ, zero, suc, ◌+◌, ◌-◌, ◌≤◌, ◌<◌, ◌⊎◌, inl, inr, true, false, List, [], ◌∷◌, ◌++◌, length, Some, refl, sym, ap, subst, ◌∙◌, append_assoc, length-append, arith}
+use Rattle.std.proofs.Common.{◌≡◌, ◌≢◌, ℕ, zero, suc, ◌-◌, ◌≤◌, ◌⊎◌, inl, inr, true, List, [], ◌∷◌, ◌++◌, length, refl, sym, ap, subst, ◌∙◌, append_assoc, length-append, arith}
 use Rattle.std.proofs.lemmas.Bool.Decides.{nat_tests}
 use Rattle.std.proofs.lemmas.List.{append-nil}
 use Rattle.std.specs.Str.Parse.{signed_digits_value}
 use Rattle.txs_values.specs.declared.reading.Kind.{Kind}
 use Rattle.txs_values.specs.declared.reading.Kind.TheVariants.{Wrong, Past, Deep, Broken}
-use Rattle.txs_values.specs.Value.{Ty, whole, named, Value, num, Field, Table, place_of, field_types}
+use Rattle.txs_values.specs.Value.{Ty, whole, named, Value, num, Table, field_types}
 use Rattle.txs_values.specs.Text.{text_of}
 use Rattle.txs_values.specs.Spelling.{is_digit}
-use Rattle.txs_values.specs.Spelled.{AreBlanks, IsSign, no_sign, minus_sign, AreDigits, Spells, a_number, IsSpelling}
-use Rattle.txs_values.specs.Faults.{IsReadable, Begins, Stands, no_more, Reason, wrong_form, past_range, too_deep, IsWrong, IsOutOfRange, IsDeep, Applies, IsCause, IsFirst}
-use Rattle.txs_values.specs.Reading.{Outcome, ok, stop, lone_read, levels_below}
+use Rattle.txs_values.specs.Spelled.{IsSign, no_sign, minus_sign, AreDigits, Spells, a_number, IsSpelling}
+use Rattle.txs_values.specs.Faults.{IsReadable, Begins, no_more, Reason, wrong_form, past_range, too_deep, IsOutOfRange, IsDeep, Applies, IsCause, IsFirst}
+use Rattle.txs_values.specs.Reading.{ok, stop, lone_read, levels_below}
 use Rattle.txs_values.proofs.spellings.Fronts.{same_list}
 use Rattle.txs_values.proofs.spellings.Written.{text-spells}
-use Rattle.txs_values.proofs.spellings.Found.{head, Left, head-some}
+use Rattle.txs_values.proofs.spellings.Found.{head, Left}
 use Rattle.txs_values.proofs.spellings.Names.{further, stop-kind, stop-count, no_stop}
 use Rattle.txs_values.proofs.spellings.Starts.{BeginsIn, begins-whole, begins-front, stands-begins, stands-valued, blanks-begin, open-begins, made-begins, rest-behind}
 use Rattle.txs_values.proofs.spellings.Levels.{Here}
-use Rattle.txs_values.proofs.spellings.Finds.{Limit, Ends, Fine}
+use Rattle.txs_values.proofs.spellings.Finds.{Ends, Fine}
 use Rattle.txs_values.proofs.spellings.Lone.{lone-ends, lone-left}
 use Rattle.txs_values.proofs.spellings.Reaches.{Early, past-early, deep-early}
 
@@ -61,7 +61,7 @@ module _ (table : Table) (t : Ty) (readable : IsReadable table t) where
       let d = readable.fields_valued h.c h.k h.name (h.field ∷ h.fields) h.placed in
       let x : List ℕ = text_of table d.0.0 ++ [] in
       let b = made-begins table h.blanks h.behind [] x h.c h.k h.name (h.field ∷ h.fields) [] (field_types h.fields) h.field.ty h.are_blanks h.blanks_behind h.placed refl no_more
-          (rest-behind table (field_types h.fields) d.1 h.field.ty d.0.0 (text_of table d.0.0) [] (text-spells table d.0.0 h.field.ty d.0.1) tt) in
+      (rest-behind table (field_types h.fields) d.1 h.field.ty d.0.0 (text_of table d.0.0) [] (text-spells table d.0.0 h.field.ty d.0.1) tt) in
       let c = begins-front table (named h.k) (h.blanks ++ (h.name ++ (h.behind ++ (40 ∷ [])))) x (subst (BeginsIn table (named h.k)) (shift h.blanks h.name h.behind x) b) in (
         40 ∷ [],
         h.more,
@@ -72,6 +72,7 @@ module _ (table : Table) (t : Ty) (readable : IsReadable table t) where
     where
       shift : (bl name before x : List ℕ) → bl ++ (name ++ (before ++ (40 ∷ x))) ≡ (bl ++ (name ++ (before ++ (40 ∷ [])))) ++ x
       shift bl name before x = simp append_assoc
+
       shift-front : (front bl name before tail : List ℕ) → front ++ (bl ++ (name ++ (before ++ tail))) ≡ (front ++ (bl ++ (name ++ before))) ++ tail
       shift-front front bl name before tail = simp append_assoc
 
@@ -102,6 +103,7 @@ module _ (table : Table) (t : Ty) (readable : IsReadable table t) where
         le-or zero j = inl (omega arith)
         le-or (suc i) zero = inr (omega arith)
         le-or (suc i) (suc j) = elim (le-or i j) [ inl h ↦ inl (omega (arith, h)) | inr h ↦ inr (omega (arith, h)) ]
+
         clash : (x : List ℕ) → q ≡ left.used ++ x → left.rest ≡ x ++ more → suc (length left.used) ≤ length q → ⊥
         clash [] f g h = let i : length q ≡ length left.used = ap length (f ∙ append-nil left.used) in omega (arith, i, h)
         clash (c ∷ x) f g h =
@@ -109,6 +111,7 @@ module _ (table : Table) (t : Ty) (readable : IsReadable table t) where
             let s = left.local readable w all (ap head (sym g)) in
             let p : q ++ b.1 ≡ left.used ++ all = ap (λ (l : List ℕ). l ++ b.1) f ∙ append_assoc left.used (c ∷ x) b.1 in
             no-end b.0 (length all) (left.used ++ all) s (lone-ends table t readable.named b.0 (left.used ++ all) (subst (IsSpelling table t b.0) p b.2))
+
         by : (length q ≤ length left.used) ⊎ (suc (length left.used) ≤ length q) → length q ≤ length left.used
         by (inl h) = h
         by (inr h) =
@@ -198,9 +201,11 @@ module _ (table : Table) (t : Ty) (readable : IsReadable table t) where
     where
       digit-paren : (d : ℕ) → is_digit d ≡ true → d ≡ 40 → ⊥
       digit-paren d h e = grind (arith, nat_tests)
+
       by : {sign : List ℕ} → IsSign sign → (d : ℕ) (ds more tail : List ℕ) → AreDigits (d ∷ ds) → (sign ++ d ∷ ds) ++ more ≡ 40 ∷ tail → ⊥
       by no_sign d ds more tail h e = digit-paren d h.0 (same_list e).0
       by minus_sign d ds more tail h e = let k : 45 ≡ 40 = (same_list e).0 in omega (arith, k)
+
       same : (z : List ℕ) → q ≡ p ++ z → r ≡ z ++ s → ⊥
       same [] f g = by x.is_sign x.first x.digits x.more y.more x.are_digits (sym x.here ∙ g ∙ y.here)
       same (c ∷ z) f g = let j : length q ≡ length (p ++ c ∷ z) = ap length f in let k = length-append p (c ∷ z) in omega (arith, j, k, l)

@@ -1,13 +1,12 @@
 -- A text spells at most one value of a type, and only so far.
-use Rattle.std.proofs.Common.{◌≡◌, ℕ, zero, suc, ◌≤◌, false, true, Bool, List, [], ◌∷◌, ◌++◌, Option, Some, None, codes, refl, sym, ap, subst, ◌∙◌, append_assoc, arith}
-use Rattle.std.proofs.lemmas.Bool.Decides.{nat_tests}
+use Rattle.std.proofs.Common.{◌≡◌, ℕ, false, List, [], ◌∷◌, ◌++◌, Some, codes, refl, sym, ap, subst, ◌∙◌, append_assoc, arith}
 use Rattle.std.specs.Str.Parse.{signed_digits_value}
-use Rattle.txs_values.specs.Value.{Ty, whole, truth, string, named, Value, num, bool, text, cons, Values, no_value, and_value, Field, Table, place_of, field_types}
+use Rattle.txs_values.specs.Value.{Ty, Value, num, text, cons, Values, no_value, and_value, Field, Table, place_of, field_types}
 use Rattle.txs_values.specs.Ints.{number_run, past_number}
 use Rattle.txs_values.specs.Spelling.{is_blank, is_name_byte, past_blanks}
-use Rattle.txs_values.specs.Spelled.{AreBlanks, AreDigits, IsSign, Quotes, Spells, a_number, a_true, a_false, a_text, a_constant, a_made, SpellsEach, the_last, one_more, IsName, IsSpelling, IsNamed}
-use Rattle.txs_values.specs.Reading.{ok, quoted_read}
-use Rattle.txs_values.proofs.spellings.Bytes.{Stops, past_blanks-is, stops-blanks, stops-digit, stops-all, past_blanks-all}
+use Rattle.txs_values.specs.Spelled.{AreBlanks, Spells, a_number, a_true, a_false, a_text, a_constant, a_made, SpellsEach, the_last, one_more, IsName, IsSpelling, IsNamed}
+use Rattle.txs_values.specs.Reading.{quoted_read}
+use Rattle.txs_values.proofs.spellings.Bytes.{Stops, past_blanks-is, stops-blanks, stops-digit, stops-all}
 use Rattle.txs_values.proofs.spellings.Fronts.{same_list}
 use Rattle.txs_values.proofs.spellings.Places.{same_fields}
 use Rattle.txs_values.proofs.spellings.Complete.{number-stops, name-stops}
@@ -83,17 +82,17 @@ module _ (table : Table) (is_named : IsNamed table) where
         (ap (λ i. cons i no_value) o.0, o.2)
     one-front (a_constant bl c k name ab h) (a_made cl before behind d k' title f fs vs ws ac bb hb g each) r s p q e =
         let o = one-made c d k name title [] (f ∷ fs) bl cl r (before ++ 40 ∷ (ws ++ (behind ++ 41 ∷ s))) ab ac h g p (stops-blanks before (40 ∷ (ws ++ (behind ++ 41 ∷ s))) bb refl)
-            (sym (constant-shift bl name r) ∙ (e ∙ made-shift cl title before ws behind s)) in
+        (sym (constant-shift bl name r) ∙ (e ∙ made-shift cl title before ws behind s)) in
         absurd (no-cons o.1)
     one-front (a_made bl before behind c k name f fs vs ws ab bb hb h each) (a_constant cl d k' title ac g) r s p q e =
         let o = one-made c d k name title (f ∷ fs) [] bl cl (before ++ 40 ∷ (ws ++ (behind ++ 41 ∷ r))) s ab ac h g (stops-blanks before (40 ∷ (ws ++ (behind ++ 41 ∷ r))) bb refl) q
-            (sym (made-shift bl name before ws behind r) ∙ (e ∙ constant-shift cl title s)) in
+        (sym (made-shift bl name before ws behind r) ∙ (e ∙ constant-shift cl title s)) in
         absurd (no-cons (sym o.1))
     one-front (a_made bl before behind c k name f fs vs ws ab bb hb h each) (a_made cl front after d k' title g gs xs zs ac bc hc q' other) r s p q e =
         let tail : List ℕ = ws ++ (behind ++ 41 ∷ r) in
         let end : List ℕ = zs ++ (after ++ 41 ∷ s) in
         let o = one-made c d k name title (f ∷ fs) (g ∷ gs) bl cl (before ++ 40 ∷ tail) (front ++ 40 ∷ end) ab ac h q' (stops-blanks before (40 ∷ tail) bb refl) (stops-blanks front (40 ∷ end) bc refl)
-            (sym (made-shift bl name before ws behind r) ∙ (e ∙ made-shift cl title front zs after s)) in
+        (sym (made-shift bl name before ws behind r) ∙ (e ∙ made-shift cl title front zs after s)) in
         let t : tail ≡ end = (same_list (same-behind before front (40 ∷ tail) (40 ∷ end) bb bc refl refl o.2)).1 in
         let each' = one-each each (subst (λ l. SpellsEach table (field_types l) xs zs) (sym o.1) other) behind after r s hb hc t in
         (ap (λ i. cons i vs) o.0 ∙ ap (cons d) each'.0, each'.1)
@@ -107,7 +106,7 @@ module _ (table : Table) (is_named : IsNamed table) where
         let tail : List ℕ = more ++ (bl ++ 41 ∷ r) in
         let end : List ℕ = rest ++ (cl ++ 41 ∷ s) in
         let o = one-front sp sq (before ++ 44 ∷ tail) (front ++ 44 ∷ end) (stops-blanks before (44 ∷ tail) bb refl) (stops-blanks front (44 ∷ end) bc refl)
-            (sym (comma-shift x before more (bl ++ 41 ∷ r)) ∙ (e ∙ comma-shift y front rest (cl ++ 41 ∷ s))) in
+        (sym (comma-shift x before more (bl ++ 41 ∷ r)) ∙ (e ∙ comma-shift y front rest (cl ++ 41 ∷ s))) in
         let t : tail ≡ end = (same_list (same-behind before front (44 ∷ tail) (44 ∷ end) bb bc refl refl o.1)).1 in
         let i = one-each each other bl cl r s ab ac t in
         (ap (λ z. and_value z vs) o.0 ∙ ap (and_value w) i.0, i.1)

@@ -1,4 +1,4 @@
-use Rattle.std.proofs.Common.{◌≡◌, ◌<◌, ◌^◌, ◌-◌, length, inr, ap, sym, ◌∙◌, arith}
+use Rattle.std.proofs.Common.{◌-◌, length, inr, sym, ◌∙◌, arith}
 use Rattle.txs_values.specs.View.{value_of, ty_of}
 use Rattle.txs_values.proofs.Refusals.{small-from, big-from, not-small, stop-within, fault-text, stopped-at, err-same, big-refuses, ok-refuses, stop-refuses}
 use Rattle.txs_values.specs.Reading.{lone_read}
