@@ -18,3 +18,8 @@ TextIsSpelling = (table : Table) (t : Ty) (v : Value) → HasType table v t → 
 -- so what is written is read as what it was
 abbrev pub WrittenIsRead : Type 0
 WrittenIsRead = (table : Table) (t : Ty) (v : Value) → IsNamed table → IsAllowed table t v → read_text table t (text_of table v) ≡ Some v
+
+-- a text spells at most one value of a type, whatever its numbers, its size and its height
+abbrev pub SpelledIsOne : Type 0
+SpelledIsOne =
+    (table : Table) (t : Ty) (bs : List ℕ) (v w : Value) → IsNamed table → IsSpelling table t v bs → IsSpelling table t w bs → v ≡ w

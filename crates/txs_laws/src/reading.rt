@@ -1,5 +1,5 @@
 //! What reading a text means.
-ghost use Rattle.txs_laws.specs.Spellings.{ReadIsSpelled, TextIsSpelling, WrittenIsRead};
+ghost use Rattle.txs_laws.specs.Spellings.{ReadIsSpelled, SpelledIsOne, TextIsSpelling, WrittenIsRead};
 
 /// A text is read as the value that it spells.
 pub fn read_is_spelled()
@@ -14,4 +14,9 @@ pub fn text_is_spelling()
 /// What is written is read as what it was.
 pub fn written_is_read()
     ensures { WrittenIsRead }
+{}
+
+/// A text spells at most one value of a type.
+pub fn spelled_is_one()
+    ensures { SpelledIsOne }
 {}

@@ -1,10 +1,9 @@
 -- The steps of the program's reader.
-use Rattle.std.proofs.Common.{◌≡◌, ◌≤◌, ◌<◌, ℕ, zero, suc, ◌+◌, ◌-◌, Bool, true, false, cond, eqb, eqb-true, get_or, take, min, List, [], ◌∷◌, ◌++◌, length, map, drop, Option, Some, None, refl, sym, ap, subst, ◌∙◌, append_assoc, arith}
+use Rattle.std.proofs.Common.{◌≡◌, ◌≤◌, ◌<◌, ℕ, zero, suc, ◌+◌, ◌-◌, Bool, true, false, cond, eqb, eqb-true, get_or, take, min, List, [], ◌∷◌, ◌++◌, length, map, drop, Some, None, refl, sym, ap, subst, ◌∙◌, append_assoc, arith}
 use Rattle.std.proofs.lemmas.Str.{is_utf8-from_IsUtf8, IsUtf8-from_is_utf8}
 use Rattle.std.specs.Str.{is_utf8, IsUtf8}
 use Rattle.std.specs.Prelude.{slice_get, option_map}
 use Rattle.std.proofs.lemmas.Bool.{cond-false}
-use Rattle.txs_values.specs.declared.reading.Kind.{Kind}
 use Rattle.txs_values.specs.declared.reading.Kind.TheVariants.{Wrong, Broken}
 use Rattle.txs_values.specs.declared.reading.Stop.{Stop}
 use Rattle.txs_values.specs.declared.reading.Stop.TheVariants.{At, NoMemory}
@@ -14,7 +13,7 @@ use Rattle.txs_values.specs.declared.value.Value.TheOpen.{Value-F}
 use Rattle.txs_values.specs.declared.value.Value.TheVariants as variants
 use Rattle.txs_values.specs.View.{value_step, value_of}
 use Rattle.txs_values.specs.declared.table.FieldDef as rust_field
-use Rattle.txs_values.specs.TableView.{field_of, cons_of, conses_of, first_of}
+use Rattle.txs_values.specs.TableView.{field_of, conses_of, first_of}
 use Rattle.txs_values.specs.Value.{Ty, Value, text, cons, no_value, packed, Constructor, Table}
 use Rattle.txs_values.specs.Spelling.{past_blanks, is_raw, escape_of, Made}
 use Rattle.txs_values.specs.Reading.{Outcome, ok, stop, after, either, with_front, symbol_here, symbol, goes_on, name_read, escape_read, quoted_read, text_read, made_among, made_read, arguments_read, enclosed_read, fields_read, value_read, value_below, level_read, levels_below, ended, lone_read}
@@ -44,7 +43,6 @@ first-rest (b ∷ bs) l =
 pub none-left : (bs : List ℕ) → length bs ≡ 0 → bs ≡ []
 none-left [] e = refl
 none-left (b ∷ bs) e = absurd (omega (arith, e))
-
 
 pub with_front-next : {A : Type 0} (xs : List A) (x : A) (o : Outcome (List A)) → with_front (xs ++ x ∷ []) o ≡ with_front xs (with_front (x ∷ []) o)
 with_front-next xs x (ok ys r) = ap (λ l. ok l r) (append_assoc xs (x ∷ []) ys)

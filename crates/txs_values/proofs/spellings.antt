@@ -15,3 +15,5 @@ pub mod Utf8
 pub mod Lone
 pub mod Reaches
 pub mod Directions
+pub mod Firsts
+pub mod Ones

@@ -64,7 +64,7 @@ NoDigit [] = Unit {0}
 NoDigit (b ∷ bs) = is_digit b ≡ false
 
 -- a number, with all its digits, that is out of the range of Int
-pub record IsPast (table : Table) (t : Ty) (p r : List ℕ) : Type 0 where
+pub record IsOutOfRange (table : Table) (t : Ty) (p r : List ℕ) : Type 0 where
   pub front : List ℕ
   pub blanks : List ℕ
   pub level : ℕ
@@ -101,7 +101,7 @@ pub record IsDeep (table : Table) (t : Ty) (p r : List ℕ) : Type 0 where
 
 abbrev pub Applies : Table → Ty → Reason → List ℕ → List ℕ → Type 0
 Applies table t wrong_form p r = IsWrong table t p r
-Applies table t past_range p r = IsPast table t p r
+Applies table t past_range p r = IsOutOfRange table t p r
 Applies table t too_deep p r = IsDeep table t p r
 
 -- this is wrong with the text, at this place

@@ -1,11 +1,11 @@
 -- How a value is read, from the left, with one byte in sight.
-use Rattle.std.specs.Prelude.{◌≡◌, ℕ, zero, suc, ◌+◌, ℤ, Bool, true, false, cond, eqb, min, List, [], ◌∷◌, ◌++◌, length, map, Option, Some, None, Result, Ok, Err, codes, slice_get}
+use Rattle.std.specs.Prelude.{ℕ, zero, suc, ◌+◌, Bool, true, false, cond, eqb, min, List, [], ◌∷◌, ◌++◌, length, Option, Some, None, codes}
 use Rattle.std.specs.Str.{is_utf8}
 use Rattle.std.specs.Str.Parse.{signed_digits_value}
 use Rattle.txs_values.specs.declared.reading.Kind.{Kind}
 use Rattle.txs_values.specs.declared.reading.Kind.TheVariants.{Wrong, Past, Deep, Broken}
-use Rattle.txs_values.specs.Value.{Ty, whole, truth, string, named, Value, num, bool, text, cons, no_value, packed, Field, Constructor, Table, fits, value_height_limit}
-use Rattle.txs_values.specs.Spelling.{past_blanks, is_name_byte, is_raw, escape_of, Made, count_of}
+use Rattle.txs_values.specs.Value.{Ty, whole, truth, string, named, Value, num, bool, text, cons, no_value, packed, Field, Constructor, Table, fits}
+use Rattle.txs_values.specs.Spelling.{past_blanks, is_name_byte, is_raw, escape_of, Made}
 use Rattle.txs_values.specs.Ints.{number_run, past_number, has_digit}
 
 -- read, with the bytes that are left; or what is wrong, with the number of the bytes that are left

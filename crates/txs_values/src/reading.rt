@@ -9,9 +9,8 @@ ghost use Rattle.txs_values.specs.TableView.{field_of};
 ghost use Rattle.txs_values.specs.View.{value_of, values_of, ty_of};
 
 use crate::ints::{is_digit, is_number, number_value, skip_blanks, split_number};
-use crate::memory;
 use crate::table::FieldDef;
-use crate::{Text, Ty, TypeTable, Value, Values};
+use crate::{Text, Ty, TypeTable, Value, Values, memory};
 use sqlite_items::Items;
 use std::alloc::{AllocError, AllocFailed, Global};
 
@@ -119,7 +118,11 @@ fn name<'a>(name: &[u8], bytes: &'a [u8]) -> Result<&'a [u8], usize>
         }
         letters = others;
     }
-    if goes_on(rest) { Err(rest.len()) } else { Ok(rest) }
+    if goes_on(rest) {
+        Err(rest.len())
+    } else {
+        Ok(rest)
+    }
 }
 
 fn truth(bytes: &[u8]) -> Result<(Value, &[u8]), Stop>

@@ -43,6 +43,7 @@ pub fn read_value(
         (λ v. IsUtf8 bytes.now × IsSpelling table.now (ty_of ty) (value_of v) bytes.now × IsAllowed table.now (ty_of ty) (value_of v))
         (λ f. (f ≡ NoMemory) ⊎ ((v : value.Value) → IsUtf8 bytes.now → IsSpelling table.now (ty_of ty) v bytes.now → IsAllowed table.now (ty_of ty) v → ⊥)) }
     ensures not_text { (result ≡ Err NotText) ↔ (IsUtf8 bytes.now → ⊥) }
+    ensures refused { IsReadable table.now (ty_of ty) → result ≢ Err NoMemory → (f : Fault) → f ≢ NoMemory → (result ≡ Err f) ↔ Refuses table.now (ty_of ty) bytes.now f }
 {
     match std::str::from_utf8(bytes) {
         Ok(_) => read_text(alloc, table, ty, bytes),
@@ -61,6 +62,7 @@ fn read_text(
         (λ v. IsUtf8 bytes.now × IsSpelling table.now (ty_of ty) (value_of v) bytes.now × IsAllowed table.now (ty_of ty) (value_of v))
         (λ f. (f ≡ NoMemory) ⊎ ((v : value.Value) → IsUtf8 bytes.now → IsSpelling table.now (ty_of ty) v bytes.now → IsAllowed table.now (ty_of ty) v → ⊥)) }
     ensures text { result ≢ Err NotText }
+    ensures refused { IsReadable table.now (ty_of ty) → result ≢ Err NoMemory → (f : Fault) → f ≢ NoMemory → (result ≡ Err f) ↔ Refuses table.now (ty_of ty) bytes.now f }
 {
     match lone(alloc, table, ty, bytes) {
         Ok(value) => {
@@ -89,7 +91,7 @@ fn fault(kind: Kind, at: usize) -> ReadValueFault
 #[cfg(test)]
 mod tests {
     use super::*;
-    use crate::{ConsDef, FieldDef, NoMemory, Text, TypeDef};
+    use crate::{Bytes, ConsDef, FieldDef, NoMemory, Text, TypeDef, text_of};
     use sqlite_items::Items;
     use std::test::Fail;
 
@@ -114,16 +116,39 @@ mod tests {
     }
 
     const OP: Ty = Ty::Named(0);
+
     const LIST: Ty = Ty::Named(1);
+
     const PAIR: Ty = Ty::Named(2);
+
     const WORD: Ty = Ty::Named(3);
 
     fn types(alloc: Global) -> Result<TypeTable, NoMemory> {
         let mut table = TypeTable::new(alloc);
-        defined(alloc, &mut table, "Op", &[("Enq", &[Ty::Int]), ("Deq", &[])])?;
-        defined(alloc, &mut table, "List", &[("Nil", &[]), ("Cons", &[Ty::Int, LIST])])?;
-        defined(alloc, &mut table, "Pair", &[("Pair", &[Ty::Bool, Ty::Text])])?;
-        defined(alloc, &mut table, "Word", &[("Word", &[]), ("Words", &[Ty::Int])])?;
+        defined(
+            alloc,
+            &mut table,
+            "Op",
+            &[("Enq", &[Ty::Int]), ("Deq", &[])],
+        )?;
+        defined(
+            alloc,
+            &mut table,
+            "List",
+            &[("Nil", &[]), ("Cons", &[Ty::Int, LIST])],
+        )?;
+        defined(
+            alloc,
+            &mut table,
+            "Pair",
+            &[("Pair", &[Ty::Bool, Ty::Text])],
+        )?;
+        defined(
+            alloc,
+            &mut table,
+            "Word",
+            &[("Word", &[]), ("Words", &[Ty::Int])],
+        )?;
         Ok(table)
     }
 
@@ -148,8 +173,16 @@ mod tests {
             (LIST, "Nil()", ReadValueFault::WrongForm { at: 3 }),
             (PAIR, "Pair(Tru", ReadValueFault::WrongForm { at: 8 }),
             (PAIR, "Pair(true,", ReadValueFault::WrongForm { at: 5 }),
-            (PAIR, "Pair(True,\"\\x\")", ReadValueFault::WrongForm { at: 12 }),
-            (PAIR, "Pair(True,\"a\tb\")", ReadValueFault::WrongForm { at: 12 }),
+            (
+                PAIR,
+                "Pair(True,\"\\x\")",
+                ReadValueFault::WrongForm { at: 12 },
+            ),
+            (
+                PAIR,
+                "Pair(True,\"a\tb\")",
+                ReadValueFault::WrongForm { at: 12 },
+            ),
             (Ty::Bool, "Truer", ReadValueFault::WrongForm { at: 4 }),
             (Ty::Bool, "Fals(", ReadValueFault::WrongForm { at: 4 }),
             (Ty::Text, "\"a", ReadValueFault::WrongForm { at: 2 }),
@@ -174,6 +207,138 @@ mod tests {
         }
         let broken = read_value(rt.alloc(), &table, Ty::Text, b"\"\xff\"");
         assert!(rt; matches!(&broken, Err(ReadValueFault::NotText)));
+        Ok(())
+    }
+
+    #[test]
+    fn reads(rt: HostRuntime) -> Result<(), Fail> {
+        let table = types(rt.alloc())?;
+        let rows = [
+            (OP, " Enq ( 007 ) ", "Enq(7)"),
+            (OP, "\tDeq ", "Deq"),
+            (Ty::Int, "-0", "0"),
+            (Ty::Int, " -0012\t", "-12"),
+            (
+                Ty::Int,
+                "-170141183460469231731687303715884105728",
+                "-170141183460469231731687303715884105728",
+            ),
+            (Ty::Bool, " True", "True"),
+            (Ty::Bool, "False ", "False"),
+            (Ty::Text, " \"a\\n\\\"\\t\" ", "\"a\\n\\\"\\t\""),
+            (
+                PAIR,
+                "Pair( False ,\"\u{e9}(\" )",
+                "Pair(False,\"\u{e9}(\")",
+            ),
+            (LIST, "Cons(1, Cons (-2,Nil))", "Cons(1,Cons(-2,Nil))"),
+            (WORD, "Word", "Word"),
+            (WORD, "Words(3)", "Words(3)"),
+        ];
+        for (ty, text, want) in rows {
+            match read_value(rt.alloc(), &table, ty, text.as_bytes()) {
+                Ok(value) => {
+                    let written = text_of(rt.alloc(), &table, &value)?;
+                    assert_eq!(rt; written.as_str(), want);
+                }
+                Err(_) => assert!(rt; false, "at {text}"),
+            }
+        }
+        Ok(())
+    }
+
+    fn with(
+        alloc: Global,
+        front: &str,
+        piece: &str,
+        count: usize,
+        behind: &str,
+    ) -> Result<Bytes, NoMemory> {
+        let mut bytes = Bytes::new(alloc);
+        bytes.extend(front.as_bytes())?;
+        for _ in 0..count {
+            bytes.extend(piece.as_bytes())?;
+        }
+        bytes.extend(behind.as_bytes())?;
+        Ok(bytes)
+    }
+
+    // the parenthesis of the thousandth Cons stands at 999 * 7 + 4
+    #[test]
+    fn refuses_past_limits(rt: HostRuntime) -> Result<(), Fail> {
+        let table = types(rt.alloc())?;
+        let deep = ReadValueFault::TooDeep { at: 6_997 };
+        let past = "Cons(170141183460469231731687303715884105728,";
+        let rows = [
+            (
+                OP,
+                "",
+                "(",
+                1_000_000,
+                "",
+                ReadValueFault::WrongForm { at: 0 },
+            ),
+            (LIST, "", "Cons(1,", 100_000, "", deep),
+            (LIST, "", "Cons(1,", 1_000, "x", deep),
+            (
+                LIST,
+                "",
+                "Cons(1,",
+                999,
+                "Cons[",
+                ReadValueFault::WrongForm { at: 6_997 },
+            ),
+            (
+                LIST,
+                past,
+                "Cons(1,",
+                1_000,
+                "",
+                ReadValueFault::Range { at: 5 },
+            ),
+            (
+                Ty::Int,
+                "",
+                "9",
+                1_048_576,
+                "",
+                ReadValueFault::Range { at: 0 },
+            ),
+            (Ty::Text, "\"", "a", 1_048_574, "\"", ReadValueFault::TooBig),
+            (Ty::Text, "\"", "a", 16_384, "\"", ReadValueFault::TooBig),
+            (
+                Ty::Text,
+                "\"",
+                "a",
+                20_000,
+                "\" x",
+                ReadValueFault::WrongForm { at: 20_003 },
+            ),
+        ];
+        for (ty, front, piece, count, behind, want) in rows {
+            let bytes = with(rt.alloc(), front, piece, count, behind)?;
+            let got = read_value(rt.alloc(), &table, ty, bytes.as_slice());
+            assert!(rt;
+                matches!(&got, Err(fault) if *fault == want),
+                "at {front}{piece}{count}{behind}"
+            );
+        }
+        Ok(())
+    }
+
+    #[test]
+    fn reads_up_to_limits(rt: HostRuntime) -> Result<(), Fail> {
+        let table = types(rt.alloc())?;
+        let zeros = with(rt.alloc(), "", "0", 1_048_576, "")?;
+        let zero = read_value(rt.alloc(), &table, Ty::Int, zeros.as_slice());
+        assert!(rt; matches!(&zero, Ok(Value::Int(0))));
+        let letters = with(rt.alloc(), "\"", "a", 16_383, "\"")?;
+        let text = read_value(rt.alloc(), &table, Ty::Text, letters.as_slice());
+        assert!(rt; text.is_ok());
+        let mut whole = with(rt.alloc(), "", "Cons(1,", 999, "Nil")?;
+        whole.extend(with(rt.alloc(), "", ")", 999, "")?.as_slice())?;
+        let list = read_value(rt.alloc(), &table, LIST, whole.as_slice());
+        assert!(rt; list.is_ok());
         Ok(())
     }
 }

@@ -1,15 +1,15 @@
 -- What is spelled in front of a text is found there by the reader, where no limit stops it.
-use Rattle.std.proofs.Common.{◌≡◌, ℕ, zero, suc, ◌+◌, ◌≤◌, Bool, true, false, cond, ◌⊎◌, inl, inr, eqb, eq-eqb, max, List, [], ◌∷◌, ◌++◌, length, Option, Some, None, codes, refl, sym, ap, subst, ◌∙◌, append_assoc, length-append, arith}
+use Rattle.std.proofs.Common.{◌≡◌, ℕ, zero, suc, ◌≤◌, Bool, true, false, cond, ◌⊎◌, inl, inr, eqb, eq-eqb, List, [], ◌∷◌, ◌++◌, length, Option, Some, None, codes, refl, sym, ap, subst, ◌∙◌, append_assoc, length-append, arith}
 use Rattle.std.proofs.lemmas.Bool.{cond-true, cond-false, and_parts}
 use Rattle.std.specs.Str.{is_utf8}
 use Rattle.std.specs.Str.Parse.{signed_digits_value}
 use Rattle.txs_values.specs.declared.reading.Kind.{Kind}
 use Rattle.txs_values.specs.declared.reading.Kind.TheVariants.{Wrong, Past, Deep, Broken}
-use Rattle.txs_values.specs.Value.{Ty, whole, truth, string, named, Value, num, bool, text, cons, Values, no_value, and_value, listed, packed, Field, Table, place_of, field_types, fits, HasType, has_type, has_fields, height, heights}
+use Rattle.txs_values.specs.Value.{Ty, whole, string, named, Value, num, bool, text, cons, Values, no_value, and_value, listed, packed, Field, Table, place_of, field_types, fits, HasType, has_type, has_fields, height, heights}
 use Rattle.txs_values.specs.Ints.{number_run, past_number, has_digit}
-use Rattle.txs_values.specs.Spelling.{is_blank, is_digit, is_name_byte, is_raw, escape_of, past_blanks, run_of, past_run}
+use Rattle.txs_values.specs.Spelling.{is_blank, is_digit, is_name_byte, is_raw, past_blanks, run_of, past_run}
 use Rattle.txs_values.specs.Spelled.{AreBlanks, AreDigits, IsSign, no_sign, minus_sign, Quotes, nothing, as_it_is, escaped_by, Spells, a_number, a_true, a_false, a_text, a_constant, a_made, SpellsEach, the_last, one_more, IsNamed}
-use Rattle.txs_values.specs.Reading.{Outcome, ok, stop, after, either, with_front, symbol_here, symbol, number_read, goes_on, name_read, truth_read, escape_read, quoted_read, text_read, made_read, Reader, mark_behind, arguments_read, full_read, enclosed_read, fields_read, level_read, value_read}
+use Rattle.txs_values.specs.Reading.{Outcome, ok, stop, after, either, with_front, symbol_here, symbol, number_read, goes_on, name_read, truth_read, escape_read, quoted_read, text_read, Reader, arguments_read, full_read, fields_read, level_read, value_read}
 use Rattle.txs_values.proofs.spellings.Bytes.{Stops, digits-each, run-append, past-append, digit-minus, stops-digit, stops-blanks, past_blanks-is}
 use Rattle.txs_values.proofs.spellings.Complete.{token-is, number-stops, name-stops, fields-typed, comma-joined, same_types, height-some}
 use Rattle.txs_values.proofs.spellings.Tokens.{name-is}
@@ -102,7 +102,7 @@ true-is rest s = ap (λ o. either (after o (λ _ r. ok (bool true) r)) (after (n
 false-is : (rest : List ℕ) → Stops is_name_byte rest → truth_read (codes "False" ++ rest) ≡ ok (bool false) rest
 false-is rest s = ap (λ o. either (stop Wrong (length (codes "False" ++ rest))) (after o (λ _ r. ok (bool false) r))) (name-is (codes "False") rest (stops-goes rest s))
 
-quoted-is : {a ws : List ℕ} → Quotes a ws → (rest : List ℕ) → quoted_read false (ws ++ 34 ∷ rest) ≡ ok a rest
+pub quoted-is : {a ws : List ℕ} → Quotes a ws → (rest : List ℕ) → quoted_read false (ws ++ 34 ∷ rest) ≡ ok a rest
 quoted-is nothing rest = refl
 quoted-is (as_it_is {bs = a} {ws = ws} b x y z q) rest =
     cond-false (eqb b 34) (ok [] (ws ++ 34 ∷ rest)) (cond (eqb b 92) (quoted_read true (ws ++ 34 ∷ rest)) (cond (is_raw b) (stop Wrong (length (b ∷ (ws ++ 34 ∷ rest)))) (with_front (b ∷ []) (quoted_read false (ws ++ 34 ∷ rest))))) x

@@ -1,6 +1,5 @@
 -- What a reader's outcome says of the bytes: what is read stands in front, and each byte is looked at once.
-use Rattle.std.proofs.Common.{◌≡◌, ℕ, Bool, true, false, cond, eqb, List, [], ◌∷◌, ◌++◌, length, Option, Some, None, refl, sym, ap, subst, ◌∙◌, append_assoc}
-use Rattle.std.proofs.lemmas.List.{append-nil}
+use Rattle.std.proofs.Common.{◌≡◌, ℕ, Bool, true, false, cond, List, [], ◌∷◌, ◌++◌, length, Option, Some, None, refl, sym, ap, subst, ◌∙◌, append_assoc}
 use Rattle.txs_values.specs.declared.reading.Kind.{Kind}
 use Rattle.txs_values.specs.declared.reading.Kind.TheVariants.{Wrong}
 use Rattle.txs_values.specs.Spelling.{is_blank, past_blanks}

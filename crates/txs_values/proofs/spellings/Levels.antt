@@ -1,25 +1,22 @@
 -- What the reader of values finds: what is read is spelled, and what is wrong stands where the reader stops.
-use Rattle.std.proofs.Common.{◌≡◌, ℕ, zero, suc, ◌+◌, ◌≤◌, Bool, true, false, cond, ◌⊎◌, inl, inr, eqb, eqb-true, eq-eqb, min, max, List, [], ◌∷◌, ◌++◌, length, Option, Some, None, codes, refl, sym, ap, subst, ◌∙◌, append_assoc, arith}
-use Rattle.std.proofs.lemmas.Bool.{cond-true, cond-false, and_from}
-use Rattle.std.proofs.lemmas.List.{append-nil}
+use Rattle.std.proofs.Common.{◌≡◌, ℕ, suc, ◌≤◌, Bool, true, false, cond, ◌⊎◌, inl, inr, eqb, eqb-true, eq-eqb, min, List, [], ◌∷◌, ◌++◌, length, Some, None, codes, refl, sym, ap, subst, ◌∙◌, append_assoc}
+use Rattle.std.proofs.lemmas.Bool.{cond-true, cond-false}
 use Rattle.std.specs.Str.{is_utf8}
-use Rattle.std.specs.Str.Parse.{signed_digits_value}
 use Rattle.txs_values.specs.declared.reading.Kind.{Kind}
 use Rattle.txs_values.specs.declared.reading.Kind.TheVariants.{Wrong, Past, Deep, Broken}
-use Rattle.txs_values.specs.Value.{Ty, whole, truth, string, named, Value, num, bool, text, cons, Values, no_value, and_value, packed, Field, Table, place_of, field_types, fits, fields_in, HasType, has_type, has_fields, height, heights, value_height_limit}
-use Rattle.txs_values.specs.Spelling.{past_blanks, Made}
-use Rattle.txs_values.specs.Spelled.{AreBlanks, IsSign, Quotes, escaped_by, nothing, Spells, a_number, a_true, a_false, a_text, a_constant, a_made, SpellsEach, the_last, one_more}
-use Rattle.txs_values.specs.Faults.{IsReadable, Begins, Leads, no_more, one_before, Stands, as_whole, as_argument, IsPast, IsDeep}
-use Rattle.txs_values.specs.Reading.{Outcome, ok, stop, after, either, with_front, symbol_here, symbol, number_read, goes_on, name_read, truth_read, quoted_read, text_read, made_read, Reader, mark_behind, arguments_read, full_read, enclosed_read, fields_read, level_read, value_read}
-use Rattle.txs_values.proofs.spellings.Found.{head, Got, Left, Found, Sound, head-none, head-some, found-ok, found-wrong, sound_after, sound_front, found-map, sound_map, sound_blanks}
-use Rattle.txs_values.proofs.spellings.Tokens.{sound_symbol_here, IsWhole, IsPastHere, sound_number, sound_name, BeginsName, name-is, sound_quoted, IsBroken, Before, QuotedBy, BeginsQuoted}
-use Rattle.txs_values.proofs.spellings.Names.{IsMade, BeginsMade, sound_made, name-front, goes-head, either-left, left-at, left-after, no_stop, same_ok, stop-kind, stop-count}
-use Rattle.txs_values.proofs.spellings.Starts.{BeginsIn, begins-front, begins-whole, leads-snoc, rest-behind, made-begins, have-behind, stands-begins, stands-valued, blanks-begin, name-begins, open-begins}
+use Rattle.txs_values.specs.Value.{Ty, named, Value, bool, text, cons, Values, packed, Field, Table, place_of, field_types, fields_in, HasType, has_fields, height, heights}
+use Rattle.txs_values.specs.Spelled.{AreBlanks, Quotes, Spells, SpellsEach}
+use Rattle.txs_values.specs.Faults.{IsReadable, Begins, Stands, IsOutOfRange, IsDeep}
+use Rattle.txs_values.specs.Reading.{Outcome, ok, stop, after, either, name_read, truth_read, quoted_read, text_read, Reader}
+use Rattle.txs_values.proofs.spellings.Found.{Got, Left, Found, Sound, head-none, head-some, found-wrong}
+use Rattle.txs_values.proofs.spellings.Tokens.{sound_name, BeginsName, name-is, sound_quoted, IsBroken, QuotedBy, BeginsQuoted}
+use Rattle.txs_values.proofs.spellings.Names.{name-front, goes-head, either-left, left-at, left-after}
+use Rattle.txs_values.proofs.spellings.Starts.{BeginsIn, begins-whole, stands-begins}
 
 -- what is wrong, where the bytes in front are p and r is left
 abbrev pub Here : Table → Ty → Kind → List ℕ → List ℕ → Type 0
 Here table t Wrong p r = IsReadable table t → Begins table t p
-Here table t Past p r = IsPast table t p r
+Here table t Past p r = IsOutOfRange table t p r
 Here table t Deep p r = IsDeep table t p r
 Here table t Broken p r = IsBroken r
 
@@ -78,9 +75,9 @@ module _ (N : Type 0) where
       let x : Left N (name_read (codes "True")) (BeginsName (codes "True")) bs k i = subst (λ (z : Outcome (Unit {0})). Found N (name_read (codes "True")) (λ _ u. u ≡ codes "True") (BeginsName (codes "True")) bs z) e (sound_name N (codes "True") bs) in
       let y : Left N (name_read (codes "False")) (BeginsName (codes "False")) bs l j = subst (λ (z : Outcome (Unit {0})). Found N (name_read (codes "False")) (λ _ u. u ≡ codes "False") (BeginsName (codes "False")) bs z) f (sound_name N (codes "False") bs) in
       let a = left-after N (name_read (codes "True")) (λ _ r. ok (bool true) r) BeginsTruth bs Wrong i
-          (left-at N (name_read (codes "True")) (BeginsName (codes "True")) BeginsTruth bs Wrong i (λ u r b. (refl, (b.1, inl b.2))) (subst (λ z. Left N (name_read (codes "True")) (BeginsName (codes "True")) bs z i) x.here.0 x)) in
+      (left-at N (name_read (codes "True")) (BeginsName (codes "True")) BeginsTruth bs Wrong i (λ u r b. (refl, (b.1, inl b.2))) (subst (λ z. Left N (name_read (codes "True")) (BeginsName (codes "True")) bs z i) x.here.0 x)) in
       let b = left-after N (name_read (codes "False")) (λ _ r. ok (bool false) r) BeginsTruth bs Wrong j
-          (left-at N (name_read (codes "False")) (BeginsName (codes "False")) BeginsTruth bs Wrong j (λ u r b. (refl, (b.1, inr b.2))) (subst (λ z. Left N (name_read (codes "False")) (BeginsName (codes "False")) bs z j) y.here.0 y)) in
+      (left-at N (name_read (codes "False")) (BeginsName (codes "False")) BeginsTruth bs Wrong j (λ u r b. (refl, (b.1, inr b.2))) (subst (λ z. Left N (name_read (codes "False")) (BeginsName (codes "False")) bs z j) y.here.0 y)) in
       subst (λ z. Left N truth_read BeginsTruth bs z (min i j)) (sym y.here.0)
       (either-left N (λ w. after (name_read (codes "True") w) (λ _ r. ok (bool true) r)) (λ w. after (name_read (codes "False") w) (λ _ r. ok (bool false) r)) BeginsTruth bs i j a b)
 

@@ -1,19 +1,19 @@
 -- What the reader of a whole text finds.
-use Rattle.std.proofs.Common.{◌≡◌, ℕ, zero, suc, ◌+◌, ◌≤◌, ◌⊎◌, inl, inr, List, [], ◌∷◌, ◌++◌, length, refl, sym, ap, subst, ◌∙◌, append_assoc, arith}
+use Rattle.std.proofs.Common.{◌≡◌, ℕ, ◌+◌, ◌≤◌, inl, inr, List, [], ◌∷◌, ◌++◌, length, refl, sym, ap, subst, ◌∙◌, arith}
 use Rattle.std.proofs.lemmas.List.{append-nil}
 use Rattle.std.specs.Str.{IsUtf8}
 use Rattle.txs_values.specs.declared.reading.Kind.{Kind}
-use Rattle.txs_values.specs.declared.reading.Kind.TheVariants.{Wrong, Past, Deep, Broken}
+use Rattle.txs_values.specs.declared.reading.Kind.TheVariants.{Wrong, Broken}
 use Rattle.txs_values.specs.Value.{Ty, Value, Table, HasType, size, height, value_size_limit, value_height_limit}
 use Rattle.txs_values.specs.Spelling.{past_blanks}
-use Rattle.txs_values.specs.Spelled.{AreBlanks, Spells, IsSpelling, IsNamed, IsAllowed}
-use Rattle.txs_values.specs.Faults.{IsReadable, Begins, Stands, as_whole}
+use Rattle.txs_values.specs.Spelled.{AreBlanks, IsSpelling, IsNamed, IsAllowed}
+use Rattle.txs_values.specs.Faults.{IsReadable, as_whole}
 use Rattle.txs_values.specs.Reading.{Outcome, ok, stop, after, value_read, levels_below, ended, lone_read}
 use Rattle.txs_values.proofs.spellings.Bytes.{stops-all, past_blanks-all}
-use Rattle.txs_values.proofs.spellings.Found.{head, Got, Left, Found, Sound, head-some, found-ok, found-wrong, sound_after, sound_blanks}
+use Rattle.txs_values.proofs.spellings.Found.{head, Got, Left, Found, Sound, found-wrong, sound_after, sound_blanks}
 use Rattle.txs_values.proofs.spellings.Levels.{Here, Good}
 use Rattle.txs_values.proofs.spellings.Soundness.{value-sound}
-use Rattle.txs_values.proofs.spellings.Finds.{Limit, Ends, Fine, value-ends, limit-after}
+use Rattle.txs_values.proofs.spellings.Finds.{Ends, Fine, value-ends, limit-after}
 use Rattle.txs_values.proofs.spellings.Utf8.{unbroken}
 
 pub levels-all : 1 + levels_below ≡ value_height_limit
@@ -70,6 +70,11 @@ lone-read table t bs r v e small =
     let g : Got (IsReadable table t) (lone_read table t) (Whole table t) bs v [] = subst (λ (o : Outcome Value). Found (IsReadable table t) (lone_read table t) (Whole table t) (Here table t) bs o) e (lone-sound table t bs) in
     let w = g.spelled in
     (subst (IsSpelling table t v) (sym (g.whole ∙ append-nil g.used)) w.spelling, record { typed = w.typed; small = small; low = w.low })
+
+pub lone-spelled : (table : Table) (t : Ty) (bs : List ℕ) (v : Value) → lone_read table t bs ≡ ok v [] → IsSpelling table t v bs
+lone-spelled table t bs v e =
+    let g : Got (IsReadable table t) (lone_read table t) (Whole table t) bs v [] = subst (λ (o : Outcome Value). Found (IsReadable table t) (lone_read table t) (Whole table t) (Here table t) bs o) e (lone-sound table t bs) in
+    subst (IsSpelling table t v) (sym (g.whole ∙ append-nil g.used)) g.spelled.spelling
 
 -- ---- a stop
 

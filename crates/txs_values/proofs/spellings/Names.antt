@@ -1,13 +1,12 @@
 -- What the reader of a constructor's name finds, by the names and the numbers of the table.
-use Rattle.std.proofs.Common.{◌≡◌, ℕ, zero, suc, ◌+◌, ◌≤◌, Bool, true, false, cond, ◌⊎◌, inl, inr, eqb, eqb-true, eq-eqb, min, List, [], ◌∷◌, ◌++◌, length, Option, Some, None, refl, sym, ap, subst, ◌∙◌, append_assoc, length-append, arith}
-use Rattle.std.proofs.lemmas.Bool.{cond-true, cond-false}
+use Rattle.std.proofs.Common.{◌≡◌, ℕ, zero, suc, ◌+◌, ◌≤◌, Bool, true, false, cond, ◌⊎◌, inl, inr, eqb, eqb-true, min, List, [], ◌∷◌, ◌++◌, length, Option, Some, refl, sym, ap, subst, ◌∙◌, append_assoc, length-append, arith}
 use Rattle.txs_values.specs.declared.reading.Kind.{Kind}
 use Rattle.txs_values.specs.declared.reading.Kind.TheVariants.{Wrong}
 use Rattle.txs_values.specs.Value.{Field, Constructor, Table, Place, place_in, place_from, place_of}
 use Rattle.txs_values.specs.Spelling.{is_name_byte, run_of, past_run, Made, count_of}
 use Rattle.txs_values.specs.Spelled.{IsName, IsNamed}
 use Rattle.txs_values.specs.Reading.{Outcome, ok, stop, after, either, goes_on, name_read, made_among, made_read}
-use Rattle.txs_values.proofs.spellings.Bytes.{Each, Stops, name-each, run-append, past-append}
+use Rattle.txs_values.proofs.spellings.Bytes.{Stops, name-each, run-append, past-append}
 use Rattle.txs_values.proofs.spellings.Fronts.{same_some, same_list}
 use Rattle.txs_values.proofs.spellings.Places as places
 use Rattle.txs_values.proofs.spellings.Places.{behind-count, found-same, same_made}
@@ -20,6 +19,7 @@ same_ok {A} {x} {y} {r} {s} e = (ap value e, ap rest e)
     value : Outcome A → A
     value (ok a q) = a
     value (stop k n) = x
+
     rest : Outcome A → List ℕ
     rest (ok a q) = q
     rest (stop k n) = r
@@ -299,8 +299,8 @@ module _ (N : Type 0) (j : ℕ) where
       let name : Left N (name_read x.name) (BeginsName x.name) bs l o = subst (λ (z : Outcome (Unit {0})). Found N (name_read x.name) (λ _ u. u ≡ x.name) (BeginsName x.name) bs z) e (sound_name N x.name bs) in
       let wrong = name.here.0 in
       let first = left-after N (name_read x.name) (λ _ r. ok (record { number = n; fields = x.fields }) r) (BeginsAmong j (x ∷ xs)) bs Wrong o
-          (left-map N (name_read x.name) (BeginsName x.name) (BeginsAmong j (x ∷ xs)) (λ _ u r b. inr (zero, x.name, x.fields, b.1, (λ go. refl), b.2)) bs Wrong o
-          (subst (λ z. Left N (name_read x.name) (BeginsName x.name) bs z o) wrong name)) in
+      (left-map N (name_read x.name) (BeginsName x.name) (BeginsAmong j (x ∷ xs)) (λ _ u r b. inr (zero, x.name, x.fields, b.1, (λ go. refl), b.2)) bs Wrong o
+      (subst (λ z. Left N (name_read x.name) (BeginsName x.name) bs z o) wrong name)) in
       let second = left-map N (made_among (suc n) xs) (BeginsAmong j xs) (BeginsAmong j (x ∷ xs)) (λ _ u r b. more u b) bs Wrong v s.1 in
       let t : ◌≡◌ {A = Outcome Made} (stop Wrong (min o v)) (stop k i) = ap (λ z. stop z (min o v)) (sym s.0) ∙ h in
       (sym (stop-kind t), subst (λ z. Left N (made_among n (x ∷ xs)) (BeginsAmong j (x ∷ xs)) bs Wrong z) (stop-count t) (either-left N (λ w. after (name_read x.name w) (λ _ r. ok (record { number = n; fields = x.fields }) r)) (made_among (suc n) xs) (BeginsAmong j (x ∷ xs)) bs o v first second))
@@ -338,8 +338,14 @@ table-left N n j (t ∷ ts) (suc k) bs q i h =
     more u (inl z) = inl z
     more u (inr b) =
         let e : suc j + k ≡ j + suc k = omega arith in
-        inr (count_of t.constructors + b.0, b.1, b.2, b.3,
-          behind-count j t.constructors (place_from (suc j) ts) b.0 ∙ b.4 ∙ ap (λ v. Some (record { ty = v; constructor = record { name = b.1; fields = b.2 } })) e, b.5)
+        inr (
+          count_of t.constructors + b.0,
+          b.1,
+          b.2,
+          b.3,
+          behind-count j t.constructors (place_from (suc j) ts) b.0 ∙ b.4 ∙ ap (λ v. Some (record { ty = v; constructor = record { name = b.1; fields = b.2 } })) e,
+          b.5,
+        )
 
 -- nothing yet, or the name of a constructor of type k begins so
 abbrev pub BeginsMade : Table → ℕ → Kind → List ℕ → List ℕ → Type 0

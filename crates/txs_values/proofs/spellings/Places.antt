@@ -100,7 +100,7 @@ placed-from n j (t ∷ ts) c p h =
     ]
 
 -- a constructor with its fields, by its number
-same_fields : {j k : ℕ} {a b : List ℕ} {fs gs : List Field} → ◌≡◌ {A = Option Place} (Some (record { ty = j; constructor = record { name = a; fields = fs } })) (Some (record { ty = k; constructor = record { name = b; fields = gs } })) → fs ≡ gs
+pub same_fields : {j k : ℕ} {a b : List ℕ} {fs gs : List Field} → ◌≡◌ {A = Option Place} (Some (record { ty = j; constructor = record { name = a; fields = fs } })) (Some (record { ty = k; constructor = record { name = b; fields = gs } })) → fs ≡ gs
 same_fields e = ap (λ (p : Place). p.constructor.fields) (same_some e)
 
 -- what is found by the name has the number and the fields, as no two are called the same

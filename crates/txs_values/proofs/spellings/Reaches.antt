@@ -1,18 +1,18 @@
 -- What is wrong at a place stops the reader there, or before.
-use Rattle.std.proofs.Common.{◌≡◌, ℕ, zero, suc, ◌+◌, ◌≤◌, ◌⊎◌, inl, inr, false, cond, List, [], ◌∷◌, ◌++◌, length, Option, Some, None, refl, sym, ap, subst, ◌∙◌, append_assoc, length-append, arith}
+use Rattle.std.proofs.Common.{◌≡◌, ℕ, zero, suc, ◌+◌, ◌≤◌, ◌⊎◌, inl, inr, List, [], ◌∷◌, ◌++◌, length, Option, Some, None, refl, sym, ap, subst, ◌∙◌, append_assoc, length-append, arith}
 use Rattle.std.proofs.lemmas.Bool.{cond-false}
 use Rattle.std.specs.Str.Parse.{signed_digits_value}
 use Rattle.txs_values.specs.declared.reading.Kind.{Kind}
-use Rattle.txs_values.specs.declared.reading.Kind.TheVariants.{Wrong, Past, Deep, Broken}
+use Rattle.txs_values.specs.declared.reading.Kind.TheVariants.{Past, Deep}
 use Rattle.txs_values.specs.Value.{Ty, whole, named, Value, num, cons, packed, Field, Table, place_of, field_types, fits, value_height_limit}
-use Rattle.txs_values.specs.Spelling.{past_blanks, is_digit, is_name_byte}
-use Rattle.txs_values.specs.Spelled.{AreBlanks, AreDigits, IsSign, Spells, IsNamed}
-use Rattle.txs_values.specs.Faults.{NoDigit, Leads, no_more, one_before, Stands, as_whole, as_argument, IsPast, IsDeep}
+use Rattle.txs_values.specs.Spelling.{past_blanks, is_digit}
+use Rattle.txs_values.specs.Spelled.{AreBlanks, IsNamed}
+use Rattle.txs_values.specs.Faults.{NoDigit, Leads, no_more, one_before, Stands, as_whole, as_argument, IsOutOfRange, IsDeep}
 use Rattle.txs_values.specs.Reading.{Outcome, ok, stop, after, with_front, symbol, number_read, Reader, mark_behind, arguments_read, full_read, enclosed_read, fields_read, level_read, value_read, levels_below, ended, lone_read}
 use Rattle.txs_values.proofs.spellings.Bytes.{Stops, stops-blanks, past_blanks-is}
 use Rattle.txs_values.proofs.spellings.Complete.{token-is, number-stops, name-stops, same_types}
 use Rattle.txs_values.proofs.spellings.Names.{made-is}
-use Rattle.txs_values.proofs.spellings.Finds.{Limit, Ends, Fine, Complete, value-ends, signed-run, number-by, symbol-is, stops-goes, length-behind}
+use Rattle.txs_values.proofs.spellings.Finds.{Ends, Fine, Complete, value-ends, signed-run, number-by, symbol-is, stops-goes, length-behind}
 use Rattle.txs_values.proofs.spellings.Lone.{levels-all}
 
 -- it stops where this is left, or before
@@ -47,7 +47,7 @@ module _ (table : Table) (left : ℕ) (below : Reader) (complete : Complete tabl
   after-first f g fs v ws before more ab (inl e) h =
       let tail : List ℕ = more ++ bs in
       let q : arguments_read below (f ∷ g ∷ fs) (ws ++ (before ++ 44 ∷ tail)) ≡ with_front (v ∷ []) (arguments_read below (g ∷ fs) tail) =
-          ap (λ o. after o (λ v r. after (symbol 44 r) (λ _ more. with_front (v ∷ []) (arguments_read below (g ∷ fs) more)))) e ∙ ap (λ o. after o (λ _ more. with_front (v ∷ []) (arguments_read below (g ∷ fs) more))) (symbol-is 44 before tail ab refl) in
+      ap (λ o. after o (λ v r. after (symbol 44 r) (λ _ more. with_front (v ∷ []) (arguments_read below (g ∷ fs) more)))) e ∙ ap (λ o. after o (λ _ more. with_front (v ∷ []) (arguments_read below (g ∷ fs) more))) (symbol-is 44 before tail ab refl) in
       subst (λ o. Reaches o (below u bs) bs) (sym q) (front-reaches v (arguments_read below (g ∷ fs) tail) h)
   after-first f g fs v ws before more ab (inr l) h =
       let tail : List ℕ = more ++ bs in
@@ -91,7 +91,7 @@ module _ (table : Table) (t : Ty) (is_named : IsNamed table) where
   fields-reach left bl before lead bs c k name (f ∷ fs) us ms u ab bb e types l =
       let below = value_read table left in
       let q : value_read table (suc left) (named k) (bl ++ (name ++ (before ++ (40 ∷ (lead ++ bs))))) ≡ after (arguments_read below (f ∷ fs) (lead ++ bs)) (λ vs end. ok (cons c (packed vs)) end) =
-          named-read table is_named (Some below) bl c k name f fs before (lead ++ bs) ab bb e ∙ ap (λ o. after o (λ _ r. after (arguments_read below (f ∷ fs) r) (λ vs end. ok (cons c (packed vs)) end))) (symbol-is 40 before (lead ++ bs) bb refl) in
+      named-read table is_named (Some below) bl c k name f fs before (lead ++ bs) ab bb e ∙ ap (λ o. after o (λ _ r. after (arguments_read below (f ∷ fs) r) (λ vs end. ok (cons c (packed vs)) end))) (symbol-is 40 before (lead ++ bs) bb refl) in
       by q (arguments-reach table left below (value-ends table is_named left) u ms bs l (f ∷ fs) types)
     where
       by : {o : Outcome Value} → o ≡ after (arguments_read (value_read table left) (f ∷ fs) (lead ++ bs)) (λ vs end. ok (cons c (packed vs)) end)
@@ -143,6 +143,7 @@ module _ (table : Table) (t : Ty) (is_named : IsNamed table) where
     where
       shift : front ++ (bl ++ (name ++ (before ++ (40 ∷ (lead ++ bs))))) ≡ (front ++ (bl ++ (name ++ (before ++ (40 ∷ lead))))) ++ bs
       shift = simp append_assoc
+
       at : (left : ℕ) → level + left ≡ value_height_limit → Reaches (value_read table levels_below t (front ++ (bl ++ (name ++ (before ++ (40 ∷ (lead ++ bs))))))) (value_read table left (named k) (bl ++ (name ++ (before ++ (40 ∷ (lead ++ bs)))))) (bl ++ (name ++ (before ++ (40 ∷ (lead ++ bs)))))
           → Reached (front ++ (bl ++ (name ++ (before ++ (40 ∷ lead))))) (suc level) u bs
       at zero h x = inr (subst (λ y. Early (value_read table levels_below t y) bs) shift (early-in front (bl ++ (name ++ (before ++ (40 ∷ (lead ++ bs))))) bs 0 k (longer bl name before lead bs) x (fields-deep bl before lead bs c k name fs us ms u ab bb e types)))
@@ -152,6 +153,7 @@ module _ (table : Table) (t : Ty) (is_named : IsNamed table) where
         subst (λ y. Reaches (value_read table levels_below t y) (value_read table left u bs) bs) shift
             (reach-in front (bl ++ (name ++ (before ++ (40 ∷ (lead ++ bs))))) bs left k u (longer bl name before lead bs) x (fields-reach left bl before lead bs c k name fs us ms u ab bb e types l)),
       )
+
       by : Reached front level (named k) (bl ++ (name ++ (before ++ (40 ∷ (lead ++ bs))))) → Reached (front ++ (bl ++ (name ++ (before ++ (40 ∷ lead))))) (suc level) u bs
       by (inl x) = at x.0 x.1 x.2
       by (inr x) = let m = longer bl name before lead bs in let w = x.3 in inr (subst (λ y. Early (value_read table levels_below t y) bs) shift (x.0, x.1, x.2, omega (arith, m, w)))
@@ -173,7 +175,7 @@ module _ (table : Table) (t : Ty) (is_named : IsNamed table) where
   shorter : (a b : List ℕ) → length b ≤ length (a ++ b)
   shorter a b = let n = length-append a b in omega (arith, n)
 
-  pub past-early : (p r : List ℕ) → IsPast table t p r → Early (lone_read table t (p ++ r)) r
+  pub past-early : (p r : List ℕ) → IsOutOfRange table t p r → Early (lone_read table t (p ++ r)) r
   past-early p r h =
       let run : List ℕ = h.sign ++ h.first ∷ h.digits in
       let s = signed-run h.is_sign h.first h.digits h.more h.are_digits (digit-stops h.more h.ends) in

@@ -1,18 +1,18 @@
 -- The reader of values is sound at each level.
-use Rattle.std.proofs.Common.{◌≡◌, ℕ, zero, suc, ◌+◌, ◌≤◌, Bool, true, false, cond, ◌⊎◌, inl, inr, eqb, eqb-true, max, List, [], ◌∷◌, ◌++◌, length, Option, Some, None, codes, refl, sym, ap, subst, ◌∙◌, append_assoc, arith}
-use Rattle.std.proofs.lemmas.Bool.{cond-true, cond-false, and_from}
+use Rattle.std.proofs.Common.{◌≡◌, ℕ, zero, suc, ◌+◌, Bool, true, false, cond, ◌⊎◌, inl, inr, eqb, eqb-true, List, [], ◌∷◌, ◌++◌, length, Option, Some, None, codes, refl, sym, ap, subst, ◌∙◌, append_assoc, arith}
+use Rattle.std.proofs.lemmas.Bool.{and_from}
 use Rattle.std.proofs.lemmas.List.{append-nil}
 use Rattle.std.specs.Str.Parse.{signed_digits_value}
 use Rattle.txs_values.specs.declared.reading.Kind.{Kind}
-use Rattle.txs_values.specs.declared.reading.Kind.TheVariants.{Wrong, Past, Deep, Broken}
-use Rattle.txs_values.specs.Value.{Ty, whole, truth, string, named, Value, num, bool, text, cons, Values, no_value, and_value, packed, Field, Table, place_of, field_types, HasType, has_fields, height, heights, value_height_limit}
-use Rattle.txs_values.specs.Spelling.{past_blanks, is_blank, is_digit, Made}
+use Rattle.txs_values.specs.declared.reading.Kind.TheVariants.{Wrong, Deep, Broken}
+use Rattle.txs_values.specs.Value.{Ty, whole, truth, string, named, Value, num, bool, text, cons, Values, no_value, and_value, packed, Field, Table, place_of, field_types, value_height_limit}
+use Rattle.txs_values.specs.Spelling.{is_digit}
 use Rattle.txs_values.proofs.spellings.Bytes.{Stops}
-use Rattle.txs_values.specs.Spelled.{AreBlanks, IsSign, no_sign, minus_sign, Quotes, nothing, Spells, a_number, a_true, a_false, a_text, a_constant, a_made, SpellsEach, the_last, one_more}
-use Rattle.txs_values.specs.Faults.{HaveValues, NoDigit, IsReadable, Begins, Leads, no_more, one_before, Stands, as_whole, as_argument, IsPast, IsDeep}
-use Rattle.txs_values.specs.Reading.{Outcome, ok, stop, after, with_front, symbol_here, symbol, number_read, truth_read, text_read, made_read, Reader, mark_behind, arguments_read, full_read, enclosed_read, fields_read, level_read, value_read}
-use Rattle.txs_values.proofs.spellings.Found.{head, Got, Left, Found, Sound, head-none, head-some, found-ok, found-wrong, sound_after, sound_front, found-map, sound_map, sound_blanks}
-use Rattle.txs_values.proofs.spellings.Tokens.{sound_symbol_here, IsWhole, IsPastHere, sound_number, IsBroken}
+use Rattle.txs_values.specs.Spelled.{AreBlanks, IsSign, Quotes, nothing, Spells, a_number, a_true, a_false, a_text, a_constant, a_made, the_last, one_more}
+use Rattle.txs_values.specs.Faults.{HaveValues, NoDigit, IsReadable, Leads, no_more, Stands, as_argument}
+use Rattle.txs_values.specs.Reading.{ok, stop, after, with_front, symbol_here, symbol, number_read, truth_read, text_read, made_read, Reader, mark_behind, arguments_read, full_read, enclosed_read, fields_read, level_read, value_read}
+use Rattle.txs_values.proofs.spellings.Found.{Left, Sound, head-none, head-some, found-ok, found-wrong, sound_after, sound_front, sound_map, sound_blanks}
+use Rattle.txs_values.proofs.spellings.Tokens.{sound_symbol_here, IsWhole, sound_number, IsBroken}
 use Rattle.txs_values.proofs.spellings.Names.{IsMade, BeginsMade, sound_made}
 use Rattle.txs_values.proofs.spellings.Starts.{BeginsIn, begins-front, leads-snoc, rest-behind, made-begins, have-behind, stands-valued, blanks-begin, name-begins, open-begins}
 use Rattle.txs_values.proofs.spellings.Levels.{Here, Good, GoodEach, GoodArguments, IsTruth, BeginsTruth, sound_truth, IsQuoted, sound_text, typed-cons, same-place, begun, SoundBelow}

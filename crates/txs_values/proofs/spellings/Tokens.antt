@@ -1,17 +1,17 @@
 -- What the readers of numbers, names and texts find.
-use Rattle.std.proofs.Common.{◌≡◌, ℕ, zero, suc, ◌≤◌, ℤ, Bool, true, false, cond, ◌⊎◌, inl, inr, eqb, eqb-true, eq-eqb, List, [], ◌∷◌, ◌++◌, length, Option, Some, None, refl, sym, ap, subst, ◌∙◌, append_assoc, arith}
+use Rattle.std.proofs.Common.{◌≡◌, ℕ, Bool, true, false, cond, ◌⊎◌, eqb, eqb-true, eq-eqb, List, [], ◌∷◌, ◌++◌, length, Option, Some, None, refl, sym, ap, subst, ◌∙◌}
 use Rattle.std.proofs.lemmas.Bool.{cond-true, cond-false}
 use Rattle.std.specs.Str.{is_utf8}
 use Rattle.std.specs.Str.Parse.{signed_digits_value}
 use Rattle.txs_values.specs.declared.reading.Kind.{Kind}
-use Rattle.txs_values.specs.declared.reading.Kind.TheVariants.{Wrong, Past, Deep, Broken}
+use Rattle.txs_values.specs.declared.reading.Kind.TheVariants.{Wrong, Past}
 use Rattle.txs_values.specs.Value.{Value, num, text, fits}
 use Rattle.txs_values.specs.Ints.{number_run, past_number, has_digit}
 use Rattle.txs_values.specs.Spelling.{is_digit, is_name_byte, is_raw, escape_of, run_of, past_run}
 use Rattle.txs_values.specs.Spelled.{AreDigits, IsSign, no_sign, minus_sign, Quotes, nothing, as_it_is, escaped_by}
-use Rattle.txs_values.specs.Reading.{Outcome, ok, stop, after, with_front, symbol_here, number_read, goes_on, name_read, escape_read, quoted_read, text_read}
+use Rattle.txs_values.specs.Reading.{Outcome, ok, stop, with_front, symbol_here, number_read, goes_on, name_read, escape_read, quoted_read}
 use Rattle.txs_values.proofs.spellings.Bytes.{Each, Stops, run-each, run-parts, run-append, past-append, each-digits, digit-minus}
-use Rattle.txs_values.proofs.spellings.Found.{head, Got, Left, Found, Sound, head-before, head-stops, head-none, head-some, found-ok, found-wrong, found-taken, found-map, front-found, sound_after}
+use Rattle.txs_values.proofs.spellings.Found.{head, Found, Sound, head-before, head-stops, head-none, head-some, found-ok, found-wrong, found-taken, found-map, front-found}
 
 -- ---- a symbol
 
@@ -221,6 +221,7 @@ sound_name N [] bs = by (goes_on bs) refl
         other : (l : List ℕ) → Some c ≡ head l → is_name_byte c ≡ goes_on l
         other [] e = absurd (cc)
         other (b ∷ l) e = let k : c ≡ b = cc in ap is_name_byte k
+
     by : (t : Bool) → goes_on bs ≡ t → Found N (name_read []) (λ _ u. u ≡ []) (BeginsName []) bs (cond t (stop Wrong (length bs)) (ok tt bs))
     by true e = found-wrong N (name_read []) (λ _ u. u ≡ []) (BeginsName []) bs (length bs) refl (refl, [], refl) (λ w h. cond-true (goes_on w) (stop Wrong (length w)) (ok tt w) (same w h ∙ e))
     by false e = found-ok N (name_read []) (λ _ u. u ≡ []) (BeginsName []) bs tt refl (λ w h. cond-false (goes_on w) (stop Wrong (length w)) (ok tt w) (same w h ∙ e))

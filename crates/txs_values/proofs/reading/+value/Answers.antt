@@ -1,8 +1,7 @@
-use Rattle.std.proofs.Common.{◌≡◌, ◌∙◌, ◌-◌, ap, sym, map}
+use Rattle.std.proofs.Common.{◌∙◌, ◌-◌, ap, sym, map}
 use Rattle.txs_values.proofs.Written.{value_of-cons}
 use Rattle.std.proofs.lemmas.Result.{err_from_is_err_and}
 use Rattle.txs_values.proofs.ReadSteps.{enclosed, no-fields, stopped-after}
-use Rattle.txs_values.specs.ReadingView.{Stopped}
 use Rattle.txs_values.specs.Reading.{ok, after, arguments_read, value_read}
 use Rattle.txs_values.specs.TableView.{field_of}
 use Rattle.txs_values.specs.Value.{cons, packed}

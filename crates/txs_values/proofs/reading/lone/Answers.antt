@@ -1,4 +1,4 @@
-use Rattle.std.proofs.Common.{◌≡◌, ◌∙◌, ℕ, List, [], length, rules}
+use Rattle.std.proofs.Common.{◌∙◌, ℕ, List, rules}
 use Rattle.std.proofs.lemmas.Result.{err_from_is_err_and}
 use Rattle.txs_values.proofs.ReadSteps.{lone-stopped, lone-ended, ended-wrong, ended-ok, none-left}
 use Rattle.txs_values.specs.View.{value_of, ty_of}

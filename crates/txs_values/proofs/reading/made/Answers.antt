@@ -1,8 +1,8 @@
-use Rattle.std.proofs.Common.{◌≡◌, ◌∙◌, ◌+◌, ◌-◌, ◌∷◌, ℕ, ap, sym, length, drop, arith, rules}
+use Rattle.std.proofs.Common.{◌≡◌, ◌∙◌, ◌+◌, ◌∷◌, ap, sym, drop, arith}
 use Rattle.std.proofs.lemmas.List.{drop_more, drop_all}
 use Rattle.txs_values.proofs.ReadSteps.{made_read-at, made_read-none, made-start, made-next, made-end}
 use Rattle.txs_values.specs.declared.reading.Kind.TheVariants.{Wrong}
-use Rattle.txs_values.specs.Reading.{made_read, made_among, either, stop}
+use Rattle.txs_values.specs.Reading.{made_read, made_among, stop}
 use Rattle.txs_values.specs.TableView.{conses_of, first_of}
 use Rattle.txs_values.proofs.reading.made.Goals.{in-Some+else-loop-constructor-test, in_default}
 use Rattle.txs_values.proofs.reading.made.Goals as goal
@@ -46,6 +46,6 @@ returns c = elim c.match-constructors.branch [
       made-end (made_read 0 c.args.table.now c.args.ty bs) w.loop-constructor.left w.loop-constructor.id (drop w.loop-constructor.constructor-index w.in-Some.constructors.now) bs v.tried
       (drop_all w.loop-constructor.constructor-index w.in-Some.constructors.now (omega (arith, t))) v.within
       ∙ ap (stop Wrong) (sym w.left-is)
-  )
+      )
   | in_default w ↦ made_read-none 0 c.args.table.now c.args.ty c.args.bytes.now w.in_default.ensures.constructors ∙ ap (stop Wrong) (sym w.left-is)
 ]

@@ -1,4 +1,4 @@
-use Rattle.std.proofs.Common.{◌≡◌, ℕ, List, sym, ap, ◌∙◌, subst}
+use Rattle.std.proofs.Common.{ℕ, List, sym, ap, ◌∙◌, subst}
 use Rattle.txs_values.specs.Reading.{ok}
 use Rattle.std.specs.Str.{IsUtf8}
 use Rattle.txs_values.proofs.ReadSteps.{text-ok, text-broken, value_of-text}

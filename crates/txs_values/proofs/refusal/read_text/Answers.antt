@@ -1,9 +1,8 @@
-use Rattle.std.proofs.Common.{◌≡◌, ◌<◌, ◌^◌, ◌-◌, length, inr, ap, sym, ◌∙◌, arith}
+use Rattle.std.proofs.Common.{◌-◌, length, inr, sym, ◌∙◌, arith}
 use Rattle.txs_values.specs.View.{value_of, ty_of}
-use Rattle.txs_values.proofs.Refusals.{small-from, big-from, not-small, stop-within, fault-text, stopped-at, err-same}
+use Rattle.txs_values.proofs.Refusals.{small-from, big-from, not-small, stop-within, fault-text, stopped-at, err-same, big-refuses, ok-refuses, stop-refuses}
 use Rattle.txs_values.specs.Reading.{lone_read}
 use Rattle.txs_values.proofs.spellings.Lone.{lone-read, lone-same, lone-unbroken, lone-allowed}
-use Rattle.txs_values.proofs.spellings.Reaches.{stands-reach}
 use Rattle.txs_values.proofs.refusal.read_text.Goals as goal
 
 pub returns-then-size_of-gt-VALUE_SIZE_LIMIT-clause-exact : goal.returns-then-size_of-gt-VALUE_SIZE_LIMIT-clause-exact
@@ -35,3 +34,17 @@ returns-in-Err-At-clause-text c e =
     fault-text c.in-Err-At.kind (length c.args.bytes.now - c.in-Err-At.left)
     (lone-unbroken c.args.table.now (ty_of c.args.ty) c.args.bytes.now c.in-Err-At.kind c.in-Err-At.left (stopped-at c.in-Err-At.field-0 c.in-Err-At.kind c.in-Err-At.left (lone_read c.args.table.now (ty_of c.args.ty) c.args.bytes.now) c.in-Err-At.field-0-is c.in-Err-At.ensures) c.requires)
     (sym c.fault.ensures ∙ err-same e)
+
+pub returns-then-size_of-gt-VALUE_SIZE_LIMIT-clause-refused : goal.returns-then-size_of-gt-VALUE_SIZE_LIMIT-clause-refused
+returns-then-size_of-gt-VALUE_SIZE_LIMIT-clause-refused c readable m f d =
+    let v = value_of c.in-Ok.value in
+    big-refuses c.args.table.now (ty_of c.args.ty) c.args.bytes.now readable c.requires v c.in-Ok.ensures (big-from v c.size_of.result _ c.size_of.ensures c.if-size_of-gt-VALUE_SIZE_LIMIT.true) f d
+
+pub returns-else-size_of-gt-VALUE_SIZE_LIMIT-clause-refused : goal.returns-else-size_of-gt-VALUE_SIZE_LIMIT-clause-refused
+returns-else-size_of-gt-VALUE_SIZE_LIMIT-clause-refused c readable m f d =
+    let v = value_of c.in-Ok.value in
+    ok-refuses c.args.table.now (ty_of c.args.ty) c.args.bytes.now readable c.requires v c.in-Ok.ensures (small-from v c.size_of.result _ c.size_of.ensures (omega arith) c.if-size_of-gt-VALUE_SIZE_LIMIT.false) c.in-Ok.value f d
+
+pub returns-in-Err-At-clause-refused : goal.returns-in-Err-At-clause-refused
+returns-in-Err-At-clause-refused c readable m f d =
+    stop-refuses c.args.table.now (ty_of c.args.ty) c.args.bytes.now readable c.requires c.in-Err-At.kind c.in-Err-At.left (stopped-at c.in-Err-At.field-0 c.in-Err-At.kind c.in-Err-At.left (lone_read c.args.table.now (ty_of c.args.ty) c.args.bytes.now) c.in-Err-At.field-0-is c.in-Err-At.ensures) c.fault.result c.fault.ensures f d
