@@ -1,5 +1,6 @@
 ghost use Rattle.std.specs.Prelude.{◌≡◌, ◌≢◌, slice_get};
 ghost use Rattle.txs_values.specs.Spelled.{IsNamed};
+ghost use Rattle.txs_values.specs.Value.{string};
 ghost use Rattle.txs_values.specs.View.{value_of, values_of, ty_of};
 ghost use Rattle.txs_terms.specs.Eval as spec;
 ghost use Rattle.txs_terms.specs.Expr.{to_text};
@@ -29,9 +30,20 @@ fn read(alloc: Global, table: &TypeTable, ty: Ty, text: &Text) -> Result<Value, 
     requires { IsNamed table.now }
     ensures { Comes result (spec.text_to table.now (ty_of ty) text.now) }
 {
-    if ty == Ty::Text {
-        return Ok(Value::Text(text.copy(alloc)?));
+    match ty {
+        Ty::Text => Ok(Value::Text(text.copy(alloc)?)),
+        Ty::Int => read_other(alloc, table, Ty::Int, text),
+        Ty::Bool => read_other(alloc, table, Ty::Bool, text),
+        Ty::Named(id) => read_other(alloc, table, Ty::Named(id), text),
     }
+}
+
+/// The value of a type other than String that the text spells.
+fn read_other(alloc: Global, table: &TypeTable, ty: Ty, text: &Text) -> Result<Value, Stop>
+    requires named { IsNamed table.now }
+    requires other { ty_of ty ≢ string }
+    ensures { Comes result (spec.text_to table.now (ty_of ty) text.now) }
+{
     match read_value(alloc, table, ty, text.as_str().as_bytes()) {
         Ok(value) => Ok(value),
         Err(fault) => Err(unread(fault)),

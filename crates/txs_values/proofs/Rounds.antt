@@ -137,3 +137,8 @@ extent-some None None e = tt
 extent-some None (Some x) e = absurd (cc)
 extent-some (Some v) None e = tt
 extent-some (Some v) (Some x) e = λ n. absurd (cc)
+
+-- and where it is not, there is none
+pub extent-none : (o : Option Value) (r : Option rust_extent.Extent) → r ≡ None → r ≡ option_map extent_of o → o ≡ None
+extent-none None r n e = refl
+extent-none (Some v) r n e = absurd (cc)

@@ -1,7 +1,8 @@
 ghost use Rattle.std.specs.Prelude.{◌≡◌, ◌++◌, ◌∷◌, [], encode_utf8, string_bytes, IfOk, OnOk};
 ghost use Rattle.std.specs.Fmt.{signed_decimal};
 ghost use Rattle.txs_values.specs.Text.{escaped, name_of, text_of};
-ghost use Rattle.txs_values.specs.Value.{place_of};
+ghost use Rattle.txs_values.specs.Spelled.{IsSpelling};
+ghost use Rattle.txs_values.specs.Value.{Ty, HasType, place_of};
 ghost use Rattle.txs_values.specs.View.{value_of};
 
 use crate::{NoMemory, Text, TypeTable, Value};
@@ -95,7 +96,8 @@ fn write_value(
 
 /// The canonical text of a value.
 pub fn text_of(alloc: Global, table: &TypeTable, value: &Value) -> Result<Text, NoMemory>
-    ensures { IfOk result (λ t. t ≡ text_of table.now (value_of value.now)) }
+    ensures text { IfOk result (λ t. t ≡ text_of table.now (value_of value.now)) }
+    ensures spelling { IfOk result (λ t. (ty : Ty) → HasType table.now (value_of value.now) ty → IsSpelling table.now ty (value_of value.now) t) }
 {
     let mut out = String::new(alloc);
     write_value(alloc, &mut out, table, value)?;

@@ -203,7 +203,7 @@ pub fn default_of(alloc: Global, table: &TypeTable, ty: Ty) -> Result<Value, NoM
 {
     let found = choice_rounds(alloc, table.as_slice())?;
     match extent_chosen(found.as_slice(), ty) {
-        None => Err(NoMemory),
+        None => unreachable!(),
         Some(extent) => {
             if extent.size > SIZE_LIMIT {
                 return Err(NoMemory);
