@@ -39,6 +39,9 @@ no_string (variant.Named k) h e = cc
 
 -- ---- the answer to a text that is not read
 
+pub moved : {bs cs : List ℕ} → bs ≡ cs → IsUtf8 bs → IsUtf8 cs
+moved e u = subst IsUtf8 e u
+
 no_form : (table : Table) (t : Ty) (bs : List ℕ) {f : ReadValueFault} (s : Stop) → IsNamed table → t ≢ string → IsUtf8 bs
     → (f ≡ fault.NoMemory) ⊎ ((v : Value) → IsUtf8 bs → IsSpelling table t v bs → IsAllowed table t v → ⊥) → f ≢ fault.NoMemory → s ≡ stop.Form
     → Stopped broken s (text_to table t bs)
