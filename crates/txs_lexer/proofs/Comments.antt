@@ -1,8 +1,8 @@
 -- Where a comment ends.
-use Rattle.std.proofs.Common.{◌≡◌, ◌≢◌, ◌⊎◌, inl, inr, ℕ, suc, ◌+◌, ◌<◌, ◌≤◌, Bool, true, false, ◌&&◌, cond, eqb, eqb-true, eq-eqb, List, [], ◌∷◌, ◌++◌, length, take, drop, Option, Some, None, refl, sym, ◌∙◌, ap, subst, arith}
+use Rattle.std.proofs.Common.{◌≡◌, ℕ, suc, ◌+◌, ◌≤◌, Bool, true, false, ◌&&◌, cond, eqb, eqb-true, List, [], ◌∷◌, ◌++◌, length, Option, Some, None, refl, sym, ◌∙◌, ap, arith}
 use Rattle.txs_lexer.specs.Tokens.{IsFirstEnd, HasNoEnd}
 use Rattle.txs_lexer.specs.Scan.{before_end, more_by, begins_with}
-use Rattle.txs_lexer.proofs.Tests.{and-both, yes, no, if-not}
+use Rattle.txs_lexer.proofs.Tests.{and-both, yes, no}
 
 -- an end stands so far in at most
 pub record EndsWithin (bs : List ℕ) (n : ℕ) : Type 0 where

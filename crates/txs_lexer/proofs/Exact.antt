@@ -1,25 +1,24 @@
 -- What the rules say of the front is what is read there.
-use Rattle.std.proofs.Common.{◌≡◌, ◌≢◌, ◌⊎◌, inl, inr, ℕ, ℤ, pos, suc, ◌+◌, ◌^◌, ◌<◌, ◌≤◌, Bool, true, false, not, ◌&&◌, cond, eqb, eqb-true, eq-eqb, nat_lt, List, [], ◌∷◌, ◌++◌, length, take, drop, Option, Some, None, Result, Ok, Err, refl, sym, ◌∙◌, ap, subst, append_assoc, length-append, arith}
+use Rattle.std.proofs.Common.{◌≡◌, ◌⊎◌, inl, inr, ℕ, ℤ, pos, ◌+◌, ◌^◌, ◌<◌, ◌≤◌, Bool, true, false, not, ◌&&◌, cond, eqb, eqb-true, nat_lt, List, [], ◌∷◌, ◌++◌, length, Option, Some, None, Ok, Err, refl, sym, ◌∙◌, ap, subst, append_assoc, length-append, arith}
 use Rattle.std.proofs.lemmas.Bool.Decides.{nat_tests}
 use Rattle.std.specs.List.{slice_get}
 use Rattle.std.specs.Str.Parse.{digits_value}
-use Rattle.txs_values.specs.Spelling.{is_digit, is_letter, is_name_byte, escape_of, run_of, past_run}
+use Rattle.txs_values.specs.Spelling.{is_digit, is_letter, is_name_byte, escape_of, run_of}
 use Rattle.txs_lexer.specs.declared.fault.LexFault.{LexFault}
-use Rattle.txs_lexer.specs.declared.fault.LexFault.TheVariants.{BadChar, OpenText, OpenComment, Number as TooLarge}
-use Rattle.txs_lexer.specs.declared.front.Front.{Front}
+use Rattle.txs_lexer.specs.declared.fault.LexFault.TheVariants.{BadChar, OpenText, Number as TooLarge}
 use Rattle.txs_lexer.specs.declared.front.Front.TheVariants.{Gap, Piece}
 use Rattle.txs_lexer.specs.declared.token.Kind.{Kind}
 use Rattle.txs_lexer.specs.declared.token.Kind.TheVariants.{Name, Word, Number, Quoted, Symbol}
 use Rattle.txs_lexer.specs.Words.{words, symbols}
 use Rattle.txs_lexer.specs.Tokens.{is_blank, is_in_line, AreAll, EndsRun, IsGap, blank, line_comment, block_comment, IsFirstEnd, BeginsNoComment, IsName, IsNumeral, Quotes, IsInside, escape, IsBroken, IsToken, IsLongest, Fails, bad_character, open_comment, too_large, open_text, bad_escape, BeginsNothing, IsLongestSymbol}
-use Rattle.txs_lexer.specs.Scan.{word_number, named_by, number_of, numbered_by, numbered, meaning, meant, begins_with, quoted, before_end, ended_by, symbol_number, symbol_by, symbol_of, sign_of, front_of}
+use Rattle.txs_lexer.specs.Scan.{word_number, named_by, numbered_by, numbered, meaning, meant, begins_with, before_end, ended_by, symbol_number, symbol_by, symbol_of, sign_of, front_of}
 use Rattle.txs_lexer.proofs.Comments.{first-found, no-end}
 use Rattle.txs_lexer.proofs.Fronts.{front-blank, front-letter, front-digit, front-quote, front-sign}
 use Rattle.txs_lexer.proofs.Places.{place-is, no-place, words-distinct, all-at}
 use Rattle.txs_lexer.proofs.Runs.{run-is}
 use Rattle.txs_lexer.proofs.Sound.{quoted-at, broken-open}
 use Rattle.txs_lexer.proofs.Symbols.{number-is, longest-none, begins-none, symbol-begins, begins_symbol, symbol-len}
-use Rattle.txs_lexer.proofs.Tests.{and-both, both-and, lt-true, lt-false, not-false, if-not, yes, no}
+use Rattle.txs_lexer.proofs.Tests.{and-both, lt-true, lt-false, not-false, if-not, yes, no}
 use Rattle.txs_lexer.proofs.Texts.{Behind, closed, broken, quotes-inside, inside-append, quotes-meaning, wrong-meaning}
 
 -- ---- bytes

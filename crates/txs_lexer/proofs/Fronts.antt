@@ -1,13 +1,13 @@
 -- Which part of the front is read, by the first byte.
-use Rattle.std.proofs.Common.{◌≡◌, ℕ, ◌+◌, ◌<◌, ◌≤◌, Bool, true, false, ◌&&◌, cond, eqb, List, [], ◌∷◌, ◌++◌, length, take, drop, get_or, Result, Ok, Err, refl, sym, ◌∙◌, ap, subst, arith}
+use Rattle.std.proofs.Common.{◌≡◌, ℕ, ◌≤◌, Bool, true, false, eqb, List, [], ◌∷◌, length, take, get_or, Result, Ok, Err, refl, sym, ◌∙◌, ap, subst, arith}
 use Rattle.std.proofs.lemmas.Bool.Decides.{nat_tests}
-use Rattle.txs_values.specs.Spelling.{is_digit, is_letter, is_name_byte, run_of, past_run}
+use Rattle.txs_values.specs.Spelling.{is_digit, is_letter, is_name_byte, run_of}
 use Rattle.txs_lexer.specs.declared.fault.LexFault.{LexFault}
 use Rattle.txs_lexer.specs.declared.fault.LexFault.TheVariants.{NoMemory, TooLong, NotUtf8, BadChar, OpenText, OpenComment, Number as TooLarge}
 use Rattle.txs_lexer.specs.declared.front.Front.{Front}
 use Rattle.txs_lexer.specs.declared.front.Front.TheVariants.{Gap}
 use Rattle.txs_lexer.specs.Tokens.{is_blank, AreAll, IsName, IsNumeral}
-use Rattle.txs_lexer.specs.Scan.{Gives, Stops, IsTail, front_of, named_by, word_number, numbered, quoted, sign_of}
+use Rattle.txs_lexer.specs.Scan.{Gives, Stops, front_of, named_by, word_number, numbered, quoted, sign_of}
 use Rattle.txs_lexer.proofs.Runs.{run-all, take-run}
 use Rattle.txs_lexer.proofs.Tests.{yes, no}
 

@@ -12,4 +12,5 @@ pub mod Symbols
 pub mod Sound
 pub mod Exact
 pub mod Whole
+pub mod Total
 pub mod Reading

@@ -1,16 +1,12 @@
 -- What the text in quotes gives, by the parts of the code that reads it.
-use Rattle.std.proofs.Common.{◌≡◌, ℕ, ◌+◌, ◌<◌, ◌≤◌, Bool, true, false, cond, eqb-true, List, [], ◌∷◌, ◌++◌, length, take, drop, Result, Ok, Err, IfErr, refl, sym, ◌∙◌, ap, subst, append_assoc, length-append, arith}
+use Rattle.std.proofs.Common.{◌≡◌, ℕ, Bool, true, false, eqb-true, List, [], ◌∷◌, ◌++◌, take, drop, Result, Ok, Err, sym, ◌∙◌, ap, subst, arith}
 use Rattle.std.proofs.lemmas.List.{take-append-drop}
 use Rattle.std.specs.Str.{IsUtf8}
-use Rattle.txs_lexer.specs.declared.fault.LexFault.{LexFault}
-use Rattle.txs_lexer.specs.declared.fault.LexFault.TheVariants.{BadChar, OpenText}
-use Rattle.txs_lexer.specs.declared.front.Front.{Front}
-use Rattle.txs_lexer.specs.declared.front.Front.TheVariants.{Piece}
-use Rattle.txs_lexer.specs.declared.token.Kind.TheVariants.{Quoted}
+use Rattle.txs_lexer.specs.declared.fault.LexFault.TheVariants.{OpenText}
 use Rattle.txs_lexer.specs.Tokens.{Quotes, IsInside}
 use Rattle.txs_lexer.specs.Scan.{IsTail, inside_len, meaning, meant, begins_with, quoted}
 use Rattle.txs_lexer.proofs.Tests.{yes, no}
-use Rattle.txs_lexer.proofs.Texts.{inside-cut, Cut, inside-meant, Meant, IsWrongAt}
+use Rattle.txs_lexer.proofs.Texts.{inside-cut, inside-meant, Meant}
 use Rattle.txs_lexer.proofs.Utf8.{cut-before, cut-behind, quotes-utf8}
 
 pub test-is : (behind past : List ℕ) (n : ℕ) (b t : Bool) → n ≡ inside_len behind → past ≡ drop n behind → b ≡ begins_with 34 past → b ≡ t → begins_with 34 (drop (inside_len behind) behind) ≡ t

@@ -11,7 +11,7 @@ use Rattle.txs_lexer.specs.declared.token.Token.{Token}
 use Rattle.txs_lexer.specs.declared.token.Kind.{Kind}
 use Rattle.txs_lexer.specs.Lexed.{Answer, with_token, Lexed, nothing_left, over_gap, over_token, at_fault}
 use Rattle.txs_lexer.specs.Tokens.{Fails}
-use Rattle.txs_lexer.specs.Scan.{front_of, Gives, Stops, Reads, IsTail, behind, Steps}
+use Rattle.txs_lexer.specs.Scan.{front_of, Stops, Reads, IsTail, behind, Steps}
 use Rattle.txs_lexer.proofs.Sound.{Fits, GapFront, TokenFront, front-fits}
 use Rattle.txs_lexer.proofs.Whole.{gap-some, token-some}
 

@@ -1,5 +1,5 @@
 -- The longest run at the front of a text.
-use Rattle.std.proofs.Common.{◌≡◌, ℕ, ◌+◌, ◌≤◌, Bool, true, false, cond, List, [], ◌∷◌, ◌++◌, length, take, drop, refl, sym, ◌∙◌, ap, subst, arith}
+use Rattle.std.proofs.Common.{◌≡◌, ℕ, ◌≤◌, Bool, true, false, cond, List, [], ◌∷◌, ◌++◌, length, take, refl, ap, arith}
 use Rattle.txs_values.specs.Spelling.{run_of, past_run}
 use Rattle.txs_lexer.specs.Tokens.{AreAll, EndsRun}
 

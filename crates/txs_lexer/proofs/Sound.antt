@@ -1,26 +1,26 @@
 -- What is read at the front is what the rules say of it.
-use Rattle.std.proofs.Common.{◌≡◌, ◌≢◌, ℕ, ℤ, pos, suc, ◌+◌, ◌^◌, ◌<◌, ◌≤◌, Bool, true, false, ◌&&◌, cond, eqb, eqb-true, eq-eqb, nat_lt, List, [], ◌∷◌, ◌++◌, length, take, drop, Option, Some, None, Result, Ok, Err, refl, sym, ◌∙◌, ap, subst, append_assoc, length-append, arith}
+use Rattle.std.proofs.Common.{◌≡◌, ◌≢◌, ℕ, pos, ◌+◌, ◌^◌, ◌≤◌, Bool, true, false, ◌&&◌, cond, eqb, eqb-true, eq-eqb, nat_lt, List, [], ◌∷◌, ◌++◌, length, take, drop, Option, Some, None, Result, Ok, Err, refl, sym, ◌∙◌, ap, subst, append_assoc, length-append, arith}
 use Rattle.std.proofs.Math.Seq.{drop-append_seam}
 use Rattle.std.proofs.lemmas.List.{take-append-drop}
 use Rattle.std.specs.List.{slice_get}
 use Rattle.std.specs.Str.Parse.{digits_value}
 use Rattle.txs_values.specs.Spelling.{is_digit, is_letter, is_name_byte, run_of, past_run}
 use Rattle.txs_lexer.specs.declared.fault.LexFault.{LexFault}
-use Rattle.txs_lexer.specs.declared.fault.LexFault.TheVariants.{BadChar, OpenText, OpenComment, Number as TooLarge}
+use Rattle.txs_lexer.specs.declared.fault.LexFault.TheVariants.{BadChar, OpenText, Number as TooLarge}
 use Rattle.txs_lexer.specs.declared.front.Front.{Front}
 use Rattle.txs_lexer.specs.declared.front.Front.TheVariants.{Gap, Piece}
 use Rattle.txs_lexer.specs.declared.token.Kind.{Kind}
-use Rattle.txs_lexer.specs.declared.token.Kind.TheVariants.{Name, Word, Number, Quoted, Symbol}
+use Rattle.txs_lexer.specs.declared.token.Kind.TheVariants.{Symbol}
 use Rattle.txs_lexer.specs.Words.{words, symbols}
-use Rattle.txs_lexer.specs.Tokens.{is_blank, is_in_line, EndsRun, IsGap, blank, line_comment, block_comment, BeginsNoComment, IsName, IsNumeral, IsInside, IsBroken, at_end, at_line_feed, behind_backslash, backslash_and_line_feed, IsToken, IsLongest, Fails, bad_character, open_comment, too_large, open_text, bad_escape, BeginsNothing, IsLongestSymbol}
-use Rattle.txs_lexer.specs.Scan.{word_number, named_by, number_of, numbered_by, numbered, inside_len, meaning, meant, begins_with, quoted, before_end, ended_by, symbol_number, symbol_by, symbol_of, sign_of, front_of}
+use Rattle.txs_lexer.specs.Tokens.{is_blank, is_in_line, EndsRun, IsGap, blank, line_comment, block_comment, BeginsNoComment, IsName, IsNumeral, IsInside, IsBroken, at_end, at_line_feed, behind_backslash, backslash_and_line_feed, IsToken, IsLongest, Fails, bad_character, open_comment, too_large, open_text, bad_escape}
+use Rattle.txs_lexer.specs.Scan.{word_number, named_by, numbered_by, numbered, inside_len, meaning, meant, begins_with, quoted, before_end, ended_by, symbol_number, symbol_by, symbol_of, sign_of, front_of}
 use Rattle.txs_lexer.proofs.Comments.{end-found, found-first, none-found}
 use Rattle.txs_lexer.proofs.Fronts.{run-name, run-numeral}
 use Rattle.txs_lexer.proofs.Places.{place-found, place-none, words-distinct}
 use Rattle.txs_lexer.proofs.Runs.{run-parts, run-all, run-ends}
 use Rattle.txs_lexer.proofs.Symbols.{IsSymbolAt, number-found, number-none, symbol-len, taken-len}
-use Rattle.txs_lexer.proofs.Tests.{and-both, both-and, true-lt, false-lt, yes, no}
-use Rattle.txs_lexer.proofs.Texts.{Cut, inside-cut, inside-is, Behind, closed, broken, Meant, IsWrongAt, inside-meant}
+use Rattle.txs_lexer.proofs.Tests.{and-both, both-and, true-lt, false-lt, no}
+use Rattle.txs_lexer.proofs.Texts.{inside-cut, inside-is, Behind, closed, broken, Meant, inside-meant}
 use Rattle.txs_lexer.proofs.Utf8.{take-seam}
 
 -- the first n bytes are a gap

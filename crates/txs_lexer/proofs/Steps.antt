@@ -1,5 +1,5 @@
 -- One step of each loop, by the functions that say how a text is read.
-use Rattle.std.proofs.Common.{◌≡◌, ℕ, ◌+◌, ◌<◌, ◌≤◌, Bool, true, false, not, ◌&&◌, cond, eqb, eqb-true, List, [], ◌∷◌, ◌++◌, length, take, drop, Option, Some, None, Result, Ok, Err, IfErr, refl, sym, ◌∙◌, ap, subst, append_assoc, arith}
+use Rattle.std.proofs.Common.{◌≡◌, ℕ, ◌+◌, ◌<◌, ◌≤◌, Bool, true, false, ◌&&◌, cond, eqb, eqb-true, List, [], ◌∷◌, ◌++◌, length, drop, Option, Some, None, Result, Ok, Err, refl, sym, ◌∙◌, ap, subst, append_assoc, arith}
 use Rattle.txs_values.specs.Spelling.{escape_of}
 use Rattle.txs_lexer.specs.Tokens.{is_plain}
 use Rattle.txs_lexer.specs.Scan.{inside_len, with_byte, farther, with_escape, escaped, character, meaning, begins_with, more_by, before_end}

@@ -1,14 +1,13 @@
 -- Which symbol stands in front.
-use Rattle.std.proofs.Common.{◌≡◌, ◌≢◌, ℕ, suc, ◌+◌, ◌<◌, ◌≤◌, Bool, true, false, not, ◌&&◌, ◌||◌, cond, eqb, nat_le, List, [], ◌∷◌, ◌++◌, length, take, drop, Option, Some, None, refl, sym, ◌∙◌, ap, subst, length-append, arith}
-use Rattle.std.proofs.lemmas.Bool.Decides.{nat_tests}
+use Rattle.std.proofs.Common.{◌≡◌, ◌≢◌, ℕ, ◌<◌, ◌≤◌, Bool, true, false, not, ◌&&◌, cond, eqb, nat_le, List, [], ◌∷◌, ◌++◌, length, take, drop, Option, Some, None, refl, sym, ◌∙◌, ap, length-append, arith}
 use Rattle.std.proofs.lemmas.List.{take-append-drop, length-take-le}
 use Rattle.std.specs.List.{slice_get, list_all}
 use Rattle.txs_values.specs.Spelling.{is_digit, is_letter}
 use Rattle.txs_lexer.specs.Words.{symbols}
 use Rattle.txs_lexer.specs.Tokens.{is_blank, IsLongestSymbol}
 use Rattle.txs_lexer.specs.Scan.{place_of, symbol_number}
-use Rattle.txs_lexer.proofs.Places.{place-found, place-none, place-is, symbols-distinct, is_short, symbol-short, all-at}
-use Rattle.txs_lexer.proofs.Tests.{and-both, true-le, le-true, yes, no}
+use Rattle.txs_lexer.proofs.Places.{place-found, place-is, symbols-distinct, symbol-short, all-at}
+use Rattle.txs_lexer.proofs.Tests.{and-both, true-le, le-true, yes}
 use Rattle.txs_lexer.proofs.Utf8.{take-seam}
 
 pub symbol-len : (k : ℕ) (s : List ℕ) → slice_get symbols k ≡ Some s → (1 ≤ length s) × (length s ≤ 3)

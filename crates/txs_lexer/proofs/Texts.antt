@@ -1,11 +1,11 @@
 -- A text in quotes: how far it goes, and what it means.
-use Rattle.std.proofs.Common.{◌≡◌, ◌≢◌, ◌⊎◌, inl, inr, ℕ, suc, ◌+◌, ◌<◌, ◌≤◌, Bool, true, false, not, ◌&&◌, ◌||◌, cond, eqb, eqb-true, List, [], ◌∷◌, ◌++◌, length, take, drop, Option, Some, None, Result, Ok, Err, refl, sym, ◌∙◌, ap, subst, append_assoc, append-nil, add-one, arith}
+use Rattle.std.proofs.Common.{◌≡◌, ◌⊎◌, inl, inr, ℕ, suc, ◌+◌, Bool, true, false, not, ◌&&◌, cond, eqb, eqb-true, List, [], ◌∷◌, ◌++◌, length, take, drop, Option, Some, None, Result, Ok, Err, refl, sym, ◌∙◌, ap, subst, arith}
 use Rattle.std.proofs.lemmas.Bool.Decides.{nat_tests}
 use Rattle.txs_values.specs.Spelling.{escape_of}
 use Rattle.txs_lexer.specs.Tokens.{is_plain, Quotes, nothing, as_it_is, escaped_by, IsInside, empty, plain, escape, IsBroken, at_end, at_line_feed, behind_backslash, backslash_and_line_feed}
-use Rattle.txs_lexer.specs.Scan.{inside_len, with_byte, farther, with_escape, meaning, begins_with}
+use Rattle.txs_lexer.specs.Scan.{inside_len, with_byte, farther, with_escape, meaning}
 use Rattle.txs_lexer.proofs.Steps.{inside-plain, inside-escape, meaning-plain}
-use Rattle.txs_lexer.proofs.Tests.{and-both, not-false, yes, no}
+use Rattle.txs_lexer.proofs.Tests.{and-both, not-false}
 
 -- ---- bytes
 

@@ -1,7 +1,6 @@
 -- A text gives one answer, and its tokens are its slices in order.
-use Rattle.std.proofs.Common.{◌≡◌, ◌≢◌, ◌↔◌, IfOk, ℕ, zero, suc, ◌+◌, ◌-◌, ◌<◌, ◌≤◌, List, [], ◌∷◌, ◌++◌, length, take, drop, Result, Ok, Err, refl, sym, ◌∙◌, ap, subst, append_assoc, append-nil, length-append, arith}
+use Rattle.std.proofs.Common.{◌≡◌, ◌≢◌, ◌↔◌, IfOk, ℕ, zero, suc, ◌+◌, ◌-◌, ◌<◌, ◌≤◌, List, [], ◌∷◌, ◌++◌, length, take, drop, Result, Ok, Err, refl, sym, ◌∙◌, ap, subst, append_assoc, length-append, arith}
 use Rattle.std.proofs.Math.Seq.{drop-append_seam, take-length}
-use Rattle.std.proofs.lemmas.List.{take-append-drop, length-drop}
 use Rattle.std.proofs.lemmas.Str.{utf8_valid_len-IsValidUpTo}
 use Rattle.std.specs.List.{slice_range}
 use Rattle.std.specs.Str.{IsUtf8, IsValidUpTo}
@@ -14,9 +13,8 @@ use Rattle.txs_lexer.specs.declared.token.Kind.{Kind}
 use Rattle.txs_lexer.specs.declared.token.Kind.TheVariants.{Name, Word, Number, Quoted, Symbol}
 use Rattle.txs_lexer.specs.Lexed.{Answer, with_token, Lexed, nothing_left, over_gap, over_token, at_fault, IsLexed, too_long, not_utf8, read, text_limit, LeadsTo, here, over, AreSlices, no_more, one_more}
 use Rattle.txs_lexer.specs.Tokens.{IsGap, blank, line_comment, block_comment, IsName, IsNumeral, IsToken, IsLongest, Fails, bad_character, open_comment, too_large, open_text, bad_escape}
-use Rattle.txs_lexer.specs.Scan.{front_of, Gives, Stops, Reads, IsTail, behind, Steps}
+use Rattle.txs_lexer.specs.Scan.{front_of, Stops, Reads}
 use Rattle.txs_lexer.proofs.Exact.{gap-front, token-front, fault-front, word-name}
-use Rattle.txs_lexer.proofs.Sound.{Fits, GapFront, TokenFront, front-fits}
 use Rattle.txs_lexer.proofs.Symbols.{symbol-len}
 use Rattle.txs_lexer.proofs.Utf8.{take-seam}
 

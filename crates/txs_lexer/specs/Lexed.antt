@@ -1,5 +1,5 @@
 -- What a text gives: its tokens, or the first fault.
-use Rattle.std.specs.Prelude.{◌≡◌, ℕ, ◌+◌, ◌<◌, ◌≤◌, List, [], ◌∷◌, ◌++◌, length, drop, slice_range, Result, Ok, Err, IsUtf8}
+use Rattle.std.specs.Prelude.{ℕ, ◌+◌, ◌<◌, ◌≤◌, List, [], ◌∷◌, ◌++◌, length, drop, slice_range, Result, Ok, Err, IsUtf8}
 use Rattle.std.specs.Str.{IsValidUpTo}
 use Rattle.txs_lexer.specs.Tokens.{IsGap, IsToken, IsLongest, Fails}
 use Rattle.txs_lexer.specs.declared.fault.LexFault.{LexFault}

@@ -1,16 +1,15 @@
 -- How the front of a text is read, one function of the code each.
-use Rattle.std.specs.Prelude.{◌≡◌, ℕ, ◌+◌, ◌^◌, ◌<◌, ◌≤◌, ℤ, pos, Bool, true, false, not, ◌&&◌, cond, eqb, nat_lt, nat_le, List, [], ◌∷◌, ◌++◌, IsUtf8, length, take, drop, Option, Some, None, Result, Ok, Err, bytes_eq}
+use Rattle.std.specs.Prelude.{◌≡◌, ℕ, ◌+◌, ◌^◌, ◌<◌, ◌≤◌, ℤ, pos, Bool, false, not, ◌&&◌, cond, eqb, nat_lt, nat_le, List, [], ◌∷◌, ◌++◌, IsUtf8, length, take, drop, Option, Some, None, Result, Ok, Err, bytes_eq}
 use Rattle.std.specs.List.{position_from}
 use Rattle.std.specs.Str.Parse.{digits_value}
 use Rattle.txs_values.specs.Spelling.{is_digit, is_letter, is_name_byte, escape_of, run_of}
-use Rattle.txs_lexer.specs.Tokens.{is_blank, is_in_line, is_plain, Fails}
+use Rattle.txs_lexer.specs.Tokens.{is_blank, is_in_line, is_plain}
 use Rattle.txs_lexer.specs.Lexed.{Answer, Lexed}
 use Rattle.txs_lexer.specs.Words.{words, symbols}
 use Rattle.txs_lexer.specs.declared.fault.LexFault.{LexFault}
 use Rattle.txs_lexer.specs.declared.fault.LexFault.TheVariants.{NoMemory, TooLong, NotUtf8, BadChar, OpenText, OpenComment, Number as TooLarge}
 use Rattle.txs_lexer.specs.declared.front.Front.{Front}
 use Rattle.txs_lexer.specs.declared.front.Front.TheVariants.{Gap, Piece}
-use Rattle.txs_lexer.specs.declared.token.Kind.{Kind}
 use Rattle.txs_lexer.specs.declared.token.Token.{Token}
 use Rattle.txs_lexer.specs.declared.token.Kind.TheVariants.{Name, Word, Number, Quoted, Symbol}
 

@@ -70,5 +70,10 @@ pub fn one_answer()
     ensures { (bytes : List ℕ) (a b : Answer) → IsLexed bytes a → IsLexed bytes b → a ≡ b }
 {}
 
+/// Each text gives one.
+pub fn some_answer()
+    ensures { (bytes : List ℕ) → (answer : Answer) × IsLexed bytes answer }
+{}
+
 #[cfg(test)]
 mod tests;

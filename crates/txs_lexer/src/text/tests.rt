@@ -1,5 +1,6 @@
 use super::*;
 use crate::token::Kind;
+use crate::{symbol, word};
 use std::test::Fail;
 
 /// The tokens in a line, each with its place: a name as it is, `w3` for a word, `7` for a number, `"a"` for a text, `s3` for a symbol. Or the fault.
@@ -118,26 +119,104 @@ fn reads_comments_and_texts(rt: HostRuntime) -> Result<(), Fail> {
     Ok(())
 }
 
-/// Each word and each symbol of the list has its place as its number.
+/// Each reserved word and each symbol, alone, has the number by which other crates call it.
 #[test]
 fn numbers_words_and_symbols(rt: HostRuntime) -> Result<(), Fail> {
-    let words =
-        "TYPEDEF FUNCDEF CONSTDEF CHANDEF PROCDEF STAUTDEF MODELDEF PURPDEF CNECTDEF ENDDEF CHAN IN OUT SYNC BEHAVIOUR STATE VAR INIT TRANS GOAL CLIENTSOCK SERVERSOCK HOST PORT ENCODE DECODE STOP EXIT HIT MISS ISTEP ACCEPT NI HIDE LET IF THEN ELSE FI QUIET";
-    let symbols =
-        "::= >-> >>> [>> [>< ||| || |[ ]| ## [[ ]] =>> -> <- :: := == <> <= >= < > ++ + - * / % /\\ \\/ = ! ? | # ( ) [ ] { } , ;";
-    let mut numbers = Vec::new(rt.alloc());
-    for text in [words, symbols] {
-        for token in lex(rt.alloc(), text.as_bytes())?.as_slice() {
-            match token.kind {
-                Kind::Word(k) | Kind::Symbol(k) => numbers.push(k)?,
-                _ => assert!(rt; false, "at {}", token.from),
-            }
-        }
+    let words = [
+        (word::TYPEDEF, "TYPEDEF"),
+        (word::FUNCDEF, "FUNCDEF"),
+        (word::CONSTDEF, "CONSTDEF"),
+        (word::CHANDEF, "CHANDEF"),
+        (word::PROCDEF, "PROCDEF"),
+        (word::STAUTDEF, "STAUTDEF"),
+        (word::MODELDEF, "MODELDEF"),
+        (word::PURPDEF, "PURPDEF"),
+        (word::CNECTDEF, "CNECTDEF"),
+        (word::ENDDEF, "ENDDEF"),
+        (word::CHAN, "CHAN"),
+        (word::IN, "IN"),
+        (word::OUT, "OUT"),
+        (word::SYNC, "SYNC"),
+        (word::BEHAVIOUR, "BEHAVIOUR"),
+        (word::STATE, "STATE"),
+        (word::VAR, "VAR"),
+        (word::INIT, "INIT"),
+        (word::TRANS, "TRANS"),
+        (word::GOAL, "GOAL"),
+        (word::CLIENTSOCK, "CLIENTSOCK"),
+        (word::SERVERSOCK, "SERVERSOCK"),
+        (word::HOST, "HOST"),
+        (word::PORT, "PORT"),
+        (word::ENCODE, "ENCODE"),
+        (word::DECODE, "DECODE"),
+        (word::STOP, "STOP"),
+        (word::EXIT, "EXIT"),
+        (word::HIT, "HIT"),
+        (word::MISS, "MISS"),
+        (word::ISTEP, "ISTEP"),
+        (word::ACCEPT, "ACCEPT"),
+        (word::NI, "NI"),
+        (word::HIDE, "HIDE"),
+        (word::LET, "LET"),
+        (word::IF, "IF"),
+        (word::THEN, "THEN"),
+        (word::ELSE, "ELSE"),
+        (word::FI, "FI"),
+        (word::QUIET, "QUIET"),
+    ];
+    for (k, text) in words {
+        let want = format!(in rt.alloc(); "w{k}@0-{} ", text.len())?;
+        assert_eq!(rt; shown(&rt, text.as_bytes())?.as_str(), want.as_str());
     }
-    assert_eq!(rt; numbers.len(), 84);
-    for (i, k) in numbers.iter().enumerate() {
-        let want = if i < 40 { i } else { i - 40 };
-        assert_eq!(rt; *k as usize, want);
+    let symbols = [
+        (symbol::DEFINES, "::="),
+        (symbol::THEN_GO, ">->"),
+        (symbol::ENABLES, ">>>"),
+        (symbol::DISABLES, "[>>"),
+        (symbol::INTERRUPTS, "[><"),
+        (symbol::INTERLEAVES, "|||"),
+        (symbol::SYNCHRONISES, "||"),
+        (symbol::SYNC_OPENS, "|["),
+        (symbol::SYNC_CLOSES, "]|"),
+        (symbol::CHOICE, "##"),
+        (symbol::GUARD_OPENS, "[["),
+        (symbol::GUARD_CLOSES, "]]"),
+        (symbol::GUARDS, "=>>"),
+        (symbol::ARROW, "->"),
+        (symbol::BACK_ARROW, "<-"),
+        (symbol::HAS_TYPE, "::"),
+        (symbol::BECOMES, ":="),
+        (symbol::EQUAL, "=="),
+        (symbol::DIFFERENT, "<>"),
+        (symbol::AT_MOST, "<="),
+        (symbol::AT_LEAST, ">="),
+        (symbol::LESS, "<"),
+        (symbol::MORE, ">"),
+        (symbol::JOIN, "++"),
+        (symbol::PLUS, "+"),
+        (symbol::MINUS, "-"),
+        (symbol::TIMES, "*"),
+        (symbol::DIVIDE, "/"),
+        (symbol::REMAINDER, "%"),
+        (symbol::AND, "/\\"),
+        (symbol::OR, "\\/"),
+        (symbol::IS, "="),
+        (symbol::OFFERS, "!"),
+        (symbol::TAKES, "?"),
+        (symbol::BAR, "|"),
+        (symbol::HASH, "#"),
+        (symbol::OPEN, "("),
+        (symbol::CLOSE, ")"),
+        (symbol::BRACKET_OPENS, "["),
+        (symbol::BRACKET_CLOSES, "]"),
+        (symbol::BRACE_OPENS, "{"),
+        (symbol::BRACE_CLOSES, "}"),
+        (symbol::COMMA, ","),
+        (symbol::SEMICOLON, ";"),
+    ];
+    for (k, text) in symbols {
+        let want = format!(in rt.alloc(); "s{k}@0-{} ", text.len())?;
+        assert_eq!(rt; shown(&rt, text.as_bytes())?.as_str(), want.as_str());
     }
     Ok(())
 }

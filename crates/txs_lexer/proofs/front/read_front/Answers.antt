@@ -1,4 +1,4 @@
-use Rattle.std.proofs.Common.{◌≡◌, ◌∙◌, sym}
+use Rattle.std.proofs.Common.{◌∙◌, sym}
 use Rattle.txs_values.specs.Spelling.{is_name_byte}
 use Rattle.txs_lexer.proofs.Fronts.{first-all, first-letter, first-digit, first-numeral, gives-same}
 use Rattle.txs_lexer.specs.Scan.{front_of}

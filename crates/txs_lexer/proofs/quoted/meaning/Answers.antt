@@ -1,4 +1,4 @@
-use Rattle.std.proofs.Common.{arith, rules, ap, sym, ◌∙◌, ◌≡◌, ◌<◌, ◌≤◌, ◌+◌, drop, length, length-drop}
+use Rattle.std.proofs.Common.{arith, rules, ap, sym, ◌∙◌, ◌<◌, ◌≤◌, length, length-drop}
 use Rattle.txs_lexer.proofs.Steps.{read-on, read-within}
 use Rattle.txs_lexer.proofs.quoted.meaning.Goals as goal
 

@@ -1,7 +1,5 @@
-use Rattle.std.proofs.Common.{◌≡◌, ◌∙◌, ℕ, ◌+◌, List, Ok, Err, Result, true, false, ap, sym, subst}
+use Rattle.std.proofs.Common.{◌≡◌, ◌∙◌, ℕ, ◌+◌, List, Ok, Err, true, false, ap, sym, subst}
 use Rattle.std.specs.Str.{IsUtf8}
-use Rattle.txs_lexer.specs.declared.fault.LexFault.{LexFault}
-use Rattle.txs_lexer.specs.declared.front.Front.{Front}
 use Rattle.txs_lexer.specs.declared.front.Front.TheVariants.{Piece}
 use Rattle.txs_lexer.specs.declared.token.Kind.TheVariants.{Quoted}
 use Rattle.txs_lexer.specs.Scan.{inside_len}

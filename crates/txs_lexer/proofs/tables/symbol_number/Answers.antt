@@ -1,4 +1,4 @@
-use Rattle.std.proofs.Common.{◌≡◌, ◌≤◌, ◌∙◌, ap, sym, true, nat_le, ℕ, List, length, take, arith, None, bytes_eq}
+use Rattle.std.proofs.Common.{◌≡◌, ◌∙◌, ap, sym, true, nat_le, ℕ, List, length, take, arith, None, bytes_eq}
 use Rattle.std.specs.List.{position}
 use Rattle.txs_lexer.specs.Scan.{place_of}
 use Rattle.txs_lexer.specs.Words.{symbols}

@@ -1,4 +1,4 @@
-use Rattle.std.proofs.Common.{◌≡◌, ◌+◌, ◌<◌, ◌≤◌, sym, ◌∙◌, ap, arith, rules, Ok, Err, length}
+use Rattle.std.proofs.Common.{◌≡◌, ◌∙◌, ap, rules, Err, length}
 use Rattle.std.proofs.lemmas.Result.{err_from_is_err_and}
 use Rattle.txs_lexer.proofs.Reading.{decides-end, decides-fault, reads-stopped, tail-at}
 use Rattle.txs_lexer.proofs.text.all_tokens.Goals as goal

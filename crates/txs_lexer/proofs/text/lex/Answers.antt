@@ -1,7 +1,4 @@
-use Rattle.std.proofs.Common.{◌≡◌, ◌≤◌, ◌<◌, sym, ◌∙◌, ap, subst, arith, Ok, Err, length, ℕ, List, Result, IfOk}
-use Rattle.std.specs.Str.{IsUtf8, IsValidUpTo}
-use Rattle.txs_lexer.specs.Lexed.{Answer, IsLexed, too_long, not_utf8, read, Lexed, AreSlices}
-use Rattle.txs_lexer.specs.Scan.{Reads}
+use Rattle.std.proofs.Common.{◌∙◌, arith, Err}
 use Rattle.txs_lexer.specs.declared.fault.LexFault.TheVariants.{TooLong, NotUtf8}
 use Rattle.txs_lexer.proofs.Whole.{exact-by, is-long, is-not_utf8, is-read, slices-read}
 use Rattle.txs_lexer.proofs.text.lex.Goals as goal

@@ -1,8 +1,5 @@
-use Rattle.std.proofs.Common.{◌≡◌, ◌+◌, ◌<◌, ◌≤◌, sym, ◌∙◌, ap, arith, Ok, Err, length}
+use Rattle.std.proofs.Common.{◌∙◌, ap, arith, Ok, Err}
 use Rattle.std.proofs.lemmas.Result.{err_from_is_err_and}
-use Rattle.txs_lexer.specs.Scan.{front_of, Stops}
-use Rattle.txs_lexer.specs.Tokens.{Fails}
-use Rattle.txs_lexer.specs.declared.front.Front.TheVariants.{Gap, Piece}
 use Rattle.txs_lexer.proofs.Reading.{gap-steps, token-steps, token-within, stops-fails, step-fault}
 use Rattle.txs_lexer.proofs.text.read_one.Goals as goal
 
