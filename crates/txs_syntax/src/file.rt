@@ -10,17 +10,17 @@ pub struct File {
 /// A definition: of a type, a function or a constant.
 #[derive(Debug, Drop)]
 pub enum Def {
-    Type {
+    TypeDef {
         name: Name,
         constructors: Items<ConDef>,
     },
-    Func {
+    FuncDef {
         name: Name,
         params: DeclList,
         result: Name,
         body: Ast,
     },
-    Const {
+    ConstDef {
         name: Name,
         ty: Name,
         body: Ast,
