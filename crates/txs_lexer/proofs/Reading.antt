@@ -84,20 +84,6 @@ stops-fails at text (TooLarge k) s h = fits-here at text (Err (TooLarge k)) s h
 pub record Decides (text : List ℕ) (tokens : List Token) (at : ℕ) (rest : List ℕ) : Type 0 where
   pub decides : (answer : Answer) → Lexed at rest answer → Lexed 0 text (behind tokens answer)
 
-behind-nothing : (answer : Answer) → behind [] answer ≡ answer
-behind-nothing (Ok more) = refl
-behind-nothing (Err fault) = refl
-
-pub decides-start : (text : List ℕ) → Decides text [] 0 text
-decides-start text = record { decides = λ answer d. subst (Lexed 0 text) (sym (behind-nothing answer)) d }
-
-pub decides-step : (text : List ℕ) (old new : List Token) (at n : ℕ) (rest more : List ℕ) → Decides text old at rest → Steps at rest old new n → more ≡ drop n rest → Decides text new (at + n) more
-decides-step text old new at n rest more h s e = record {
-  decides = λ answer d.
-      let g = s.goes answer (subst (λ (q : List ℕ). Lexed (at + n) q answer) e d) in
-      subst (Lexed 0 text) g.2 (h.decides g.0 g.1);
-}
-
 pub decides-end : (text : List ℕ) (tokens : List Token) (at : ℕ) (rest : List ℕ) → Decides text tokens at rest → length rest ≡ 0 → Lexed 0 text (Ok tokens)
 decides-end text tokens at [] h l = subst (λ (q : List Token). Lexed 0 text (Ok q)) (append-nil tokens) (h.decides (Ok []) (nothing_left at))
 decides-end text tokens at (b ∷ bs) h l = absurd (omega arith)

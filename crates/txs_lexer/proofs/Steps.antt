@@ -1,24 +1,8 @@
 -- One step of each loop, by the functions that say how a text is read.
-use Rattle.std.proofs.Common.{◌≡◌, ℕ, ◌+◌, ◌<◌, ◌≤◌, Bool, true, false, ◌&&◌, cond, eqb, eqb-true, List, [], ◌∷◌, ◌++◌, length, drop, Option, Some, None, Result, Ok, Err, refl, sym, ◌∙◌, ap, subst, append_assoc, arith}
+use Rattle.std.proofs.Common.{◌≡◌, ℕ, ◌+◌, ◌<◌, ◌≤◌, Bool, true, false, cond, eqb, eqb-true, List, [], ◌∷◌, ◌++◌, length, drop, Option, Some, None, Result, Ok, Err, refl, sym, ◌∙◌, ap, subst, append_assoc, arith}
 use Rattle.txs_values.specs.Spelling.{escape_of}
 use Rattle.txs_lexer.specs.Tokens.{is_plain}
-use Rattle.txs_lexer.specs.Scan.{inside_len, with_byte, farther, with_escape, escaped, character, meaning, begins_with, more_by, before_end}
-
--- ---- the end of a comment
-
-pub more_by-again : (m n : ℕ) (o : Option ℕ) → more_by m (more_by n o) ≡ more_by (m + n) o
-more_by-again m n None = refl
-more_by-again m n (Some k) = ap Some (omega arith)
-
-pub more_by-zero : (o : Option ℕ) → more_by 0 o ≡ o
-more_by-zero None = refl
-more_by-zero (Some k) = ap Some (omega arith)
-
-pub before_end-here : (b : ℕ) (bs : List ℕ) → eqb b 45 ≡ true → begins_with 125 bs ≡ true → before_end (b ∷ bs) ≡ Some 0
-before_end-here b bs e f = rw (e, f) refl
-
-pub before_end-later : (b : ℕ) (bs : List ℕ) → (eqb b 45 && begins_with 125 bs) ≡ false → before_end (b ∷ bs) ≡ more_by 1 (before_end bs)
-before_end-later b bs e = rw e refl
+use Rattle.txs_lexer.specs.Scan.{inside_len, with_byte, farther, with_escape, escaped, character, meaning}
 
 -- ---- the inside of a text
 
@@ -35,10 +19,6 @@ inside-escape c bs e = rw e refl
 abbrev pub ahead : List ℕ → ℕ → Result (List ℕ) ℕ → Result (List ℕ) ℕ
 ahead text n (Ok bs) = Ok (text ++ bs)
 ahead text n (Err k) = Err (n + k)
-
-pub ahead-nothing : (r : Result (List ℕ) ℕ) → ahead [] 0 r ≡ r
-ahead-nothing (Ok bs) = refl
-ahead-nothing (Err k) = ap Err (omega arith)
 
 pub ahead-byte : (text : List ℕ) (n k b : ℕ) (r : Result (List ℕ) ℕ) → ahead text n (with_byte b (farther k r)) ≡ ahead (text ++ b ∷ []) (n + k) r
 ahead-byte text n k b (Ok bs) = ap Ok (sym (append_assoc text (b ∷ []) bs))
@@ -94,6 +74,3 @@ read-on ws more text new len x l e m n =
 
 pub read-within : (ws : List ℕ) (x : ℕ × ℕ) → 0 < length ws → character ws ≡ Some x → (0 < x.1) × (x.1 ≤ length ws)
 read-within ws x l e = let g : Goes ws x.0 x.1 = subst (GoesBy ws) e (by-character ws l) in (g.some, g.within)
-
-pub read-none : (ws : List ℕ) → 0 < length ws → character ws ≡ None → meaning ws ≡ Err 0
-read-none ws l e = subst (GoesBy ws) e (by-character ws l)
