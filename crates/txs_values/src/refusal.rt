@@ -22,7 +22,7 @@ pub enum ReadValueFault {
     WrongForm { at: usize },
     #[error("the number at byte {at} is past the range of Int: keep it within -2^127 to 2^127 - 1")]
     Range { at: usize },
-    #[error("the parenthesis at byte {at} stands in 1,000 others: nest values less deeply")]
+    #[error("behind the parenthesis at byte {at} values stand more than 1,000 deep: nest less")]
     TooDeep { at: usize },
     #[error("the value is larger than 16,384: make it smaller")]
     TooBig,
