@@ -83,33 +83,33 @@ mutual
         → Elaborates scope want (tree.Text at s) (val (text s)) string
     name : {scope : Scope} {want : Option Ty} {x : Name} {e : Expr} {t : Ty} → meaning scope x.text ≡ Some (e, t) → Suits scope want t
         → Elaborates scope want (tree.Name x) e t
-    call : {scope : Scope} {want : Option Ty} {x : Name} {args : List Ast} {m : Meaning} {needs : List (Option Ty)} {es : List Expr} {e : Expr} {t : Ty}
+    call : {scope : Scope} {want : Option Ty} {x : Name} (args : List Ast) {m : Meaning} {needs : List (Option Ty)} {es : List Expr} {e : Expr} {t : Ty}
         → called scope x.text ≡ Some (m, needs) → ElaboratesEach scope needs args es → Makes want m es e t → Suits scope want t
         → Elaborates scope want (tree.Call x args) e t
-    negated : {scope : Scope} {want : Option Ty} {at : ℕ} {a : Ast} {e : Expr} {s : Ty} → Elaborates scope (Some whole) a e s → Suits scope want whole
+    negated : {scope : Scope} {want : Option Ty} {at : ℕ} (a : Ast) {e : Expr} {s : Ty} → Elaborates scope (Some whole) a e s → Suits scope want whole
         → Elaborates scope want (tree.Negate at a) (one negate e) whole
-    operated : {scope : Scope} {want : Option Ty} {o : Op} {a b : Ast} {e f : Expr} {need q r t : Ty} {make : Expr → Expr → Expr} → Operator o need t make
+    operated : {scope : Scope} {want : Option Ty} {o : Op} (a b : Ast) {e f : Expr} {need q r t : Ty} {make : Expr → Expr → Expr} → Operator o need t make
         → Elaborates scope (Some need) a e q → Elaborates scope (Some need) b f r → Suits scope want t
         → Elaborates scope want (tree.Binary o a b) (make e f) t
     -- the left side of == and <> is typed first, and the right one is needed equal
-    compared : {scope : Scope} {want : Option Ty} {o : Op} {a b : Ast} {e f : Expr} {s r : Ty} {make : Expr → Expr → Expr} → Comparison o make
+    compared : {scope : Scope} {want : Option Ty} {o : Op} (a b : Ast) {e f : Expr} {s r : Ty} {make : Expr → Expr → Expr} → Comparison o make
         → right_first a b ≡ false → Elaborates scope None a e s → Elaborates scope (Some s) b f r → Suits scope want truth
         → Elaborates scope want (tree.Binary o a b) (make e f) truth
     -- where the left side can be typed from outside alone, it is needed equal to the right one
-    compared_back : {scope : Scope} {want : Option Ty} {o : Op} {a b : Ast} {e f : Expr} {s r : Ty} {make : Expr → Expr → Expr} → Comparison o make
+    compared_back : {scope : Scope} {want : Option Ty} {o : Op} (a b : Ast) {e f : Expr} {s r : Ty} {make : Expr → Expr → Expr} → Comparison o make
         → right_first a b ≡ true → Elaborates scope None b f s → Elaborates scope (Some s) a e r → Suits scope want truth
         → Elaborates scope want (tree.Binary o a b) (make e f) truth
-    grouped : {scope : Scope} {want : Option Ty} {at : ℕ} {a : Ast} {e : Expr} {t : Ty} → Elaborates scope want a e t
+    grouped : {scope : Scope} {want : Option Ty} {at : ℕ} (a : Ast) {e : Expr} {t : Ty} → Elaborates scope want a e t
         → Elaborates scope want (tree.Group at a) e t
     -- where a type is needed, both branches are needed at it
-    chosen : {scope : Scope} {at : ℕ} {p a b : Ast} {c e f : Expr} {q r s t : Ty} → Elaborates scope (Some truth) p c q
+    chosen : {scope : Scope} {at : ℕ} (p a b : Ast) {c e f : Expr} {q r s t : Ty} → Elaborates scope (Some truth) p c q
         → Elaborates scope (Some t) a e r → Elaborates scope (Some t) b f s
         → Elaborates scope (Some t) (tree.If at p a b) (choose c e f) t
     -- where none is needed, THEN is typed first, and ELSE is needed equal
-    chosen_freely : {scope : Scope} {at : ℕ} {p a b : Ast} {c e f : Expr} {q s t : Ty} → Elaborates scope (Some truth) p c q
+    chosen_freely : {scope : Scope} {at : ℕ} (p a b : Ast) {c e f : Expr} {q s t : Ty} → Elaborates scope (Some truth) p c q
         → Elaborates scope None a e t → Elaborates scope (Some t) b f s
         → Elaborates scope None (tree.If at p a b) (choose c e f) t
-    bound : {scope : Scope} {want : Option Ty} {at : ℕ} {x : Name} {a b : Ast} {e f : Expr} {s t : Ty} → Elaborates scope None a e s
+    bound : {scope : Scope} {want : Option Ty} {at : ℕ} {x : Name} (a b : Ast) {e f : Expr} {s t : Ty} → Elaborates scope None a e s
         → Elaborates (inside scope x.text s) want b f t
         → Elaborates scope want (tree.Let at x a b) (let_in x.text e f) t
 

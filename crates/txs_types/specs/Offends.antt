@@ -75,20 +75,20 @@ mutual
         → called scope x.text ≡ Some (m, needs) → length args ≢ length needs
         → OffendsAt at scope want (tree.Call x args) (arity x.at)
     -- nothing offends inside, and the type is another than the needed one
-    other_type : {at : ℕ} {scope : Scope} {a : Ast} {e : Expr} {s t : Ty} → IsWhole a → Elaborates scope None a e s → (Fits scope t s → ⊥)
+    other_type : {at : ℕ} {scope : Scope} (a : Ast) {e : Expr} {s t : Ty} → IsWhole a → Elaborates scope None a e s → (Fits scope t s → ⊥)
         → OffendsAt at scope (Some t) a (mismatch at)
     -- fromString where no type is needed
     from_nowhere : {at : ℕ} {scope : Scope} {x : Name} (args : List Ast) {needs : List (Option Ty)} {es : List Expr}
         → called scope x.text ≡ Some (named_from_string, needs) → ElaboratesEach scope needs args es
         → OffendsAt at scope None (tree.Call x args) (mismatch at)
     -- an argument, needed as the call takes it; of a call that is an offence itself it is needed at any type
-    argument : {at : ℕ} {scope : Scope} {want need : Option Ty} {x : Name} (args : List Ast) {m : Meaning} {needs : List (Option Ty)} (i : ℕ) {a : Ast} {o : Offence}
+    argument : {at : ℕ} {scope : Scope} {want need : Option Ty} {x : Name} (args : List Ast) {m : Meaning} {needs : List (Option Ty)} (i : ℕ) (a : Ast) {o : Offence}
         → called scope x.text ≡ Some (m, needs) → length args ≡ length needs → slice_get args i ≡ Some a → slice_get needs i ≡ Some need
         → Offends scope need a o → OffendsAt at scope want (tree.Call x args) o
-    stray_argument : {at : ℕ} {scope : Scope} {want : Option Ty} {x : Name} (args : List Ast) (i : ℕ) {a : Ast} {o : Offence}
+    stray_argument : {at : ℕ} {scope : Scope} {want : Option Ty} {x : Name} (args : List Ast) (i : ℕ) (a : Ast) {o : Offence}
         → IsMiscalled scope x args → slice_get args i ≡ Some a
         → Offends scope (Some (anything scope)) a o → OffendsAt at scope want (tree.Call x args) o
-    negated : {at : ℕ} {scope : Scope} {want : Option Ty} {minus : ℕ} {a : Ast} {o : Offence}
+    negated : {at : ℕ} {scope : Scope} {want : Option Ty} {minus : ℕ} (a : Ast) {o : Offence}
         → Offends scope (Some whole) a o → OffendsAt at scope want (tree.Negate minus a) o
     -- a side of an operator
     left : {at : ℕ} {scope : Scope} {want : Option Ty} {p : Op} (a b : Ast) {o : Offence} {need t : Ty} {make : Expr → Expr → Expr} → Operator p need t make
@@ -101,7 +101,7 @@ mutual
     later_side : {at : ℕ} {scope : Scope} {want : Option Ty} {p : Op} (a b : Ast) {o : Offence} {s : Ty} {make : Expr → Expr → Expr} → Comparison p make
         → Shows scope (earlier a b) s → Offends scope (Some s) (later a b) o → OffendsAt at scope want (tree.Binary p a b) o
     -- what is in brackets: its place is that of the brackets
-    grouped : {at : ℕ} {scope : Scope} {want : Option Ty} {bracket : ℕ} {a : Ast} {o : Offence}
+    grouped : {at : ℕ} {scope : Scope} {want : Option Ty} {bracket : ℕ} (a : Ast) {o : Offence}
         → OffendsAt at scope want a o → OffendsAt at scope want (tree.Group bracket a) o
     condition : {at : ℕ} {scope : Scope} {want : Option Ty} {i : ℕ} (p a b : Ast) {o : Offence}
         → Offends scope (Some truth) p o → OffendsAt at scope want (tree.If i p a b) o
