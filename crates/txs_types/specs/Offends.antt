@@ -119,7 +119,7 @@ mutual
 
   -- the offence stands in the tree, whose place is that of its first token
   pub data Offends : Scope → Option Ty → Ast → Offence → Type 0 where
-    stands : {scope : Scope} {want : Option Ty} {a : Ast} {o : Offence} → OffendsAt (first a) scope want a o → Offends scope want a o
+    stands : {at : ℕ} {scope : Scope} {want : Option Ty} {a : Ast} {o : Offence} → first a ≡ at → OffendsAt at scope want a o → Offends scope want a o
 
   -- the type that a tree has by itself; one with an offence inside fits everywhere
   pub data Shows : Scope → Ast → Ty → Type 0 where
