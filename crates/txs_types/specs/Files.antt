@@ -12,7 +12,7 @@ use Rattle.txs_syntax.specs.declared.file.Def.TheVariants as def
 use Rattle.txs_syntax.specs.declared.file.ConDef.{ConDef}
 use Rattle.txs_syntax.specs.declared.file.DeclList.{DeclList}
 use Rattle.txs_syntax.specs.declared.file.Decl.{Decl}
-use Rattle.txs_types.specs.Names.{Variable, Global, Scope, named_function, named_constant, built_ins, test_name, constructor_globals}
+use Rattle.txs_types.specs.Names.{Variable, Global, Scope, scope_of, named_function, named_constant, built_ins, test_name, constructor_globals}
 use Rattle.txs_types.specs.Elaborates.{Elaborates}
 use Rattle.txs_types.specs.Offends.{Offence, twice, unknown, arity, mismatch, empty_type, big_type, Offends}
 
@@ -217,12 +217,21 @@ pub record IsMeant (file : File) (d : Definitions) : Type 0 where
 
 -- ---- queries
 
+-- the names of the types; of their places nothing is asked
+abbrev pub names_of : Table → List Name
+names_of [] = []
+names_of (t ∷ ts) = record { at = 0; text = t.name } ∷ names_of ts
+
+-- the scope of an expression over definitions and declarations
+abbrev pub query_scope : Definitions → DeclList → Scope
+query_scope d list = scope_of d (variables_of (names_of d.table) list)
+
 -- the offence stands in a query over definitions: in its declarations, or in its expression
-pub data QueryOffends (types : List Name) (scope : Scope) (list : DeclList) (want : Option Ty) (tree : Ast) : Offence → Type 0 where
-  twice_declared : {at : ℕ} → Repeats [] (names_in list.decls) at → QueryOffends types scope list want tree (twice at)
-  unknown_declared : (j : ℕ) {n : Name} → slice_get (types_used list.decls) j ≡ Some n → is_undefined types n ≡ true
-      → QueryOffends types scope list want tree (unknown n.at)
-  in_expression : {o : Offence} → Offends scope want tree o → QueryOffends types scope list want tree o
+pub data QueryOffends (d : Definitions) (list : DeclList) (want : Option Ty) (tree : Ast) : Offence → Type 0 where
+  twice_declared : {at : ℕ} → Repeats [] (names_in list.decls) at → QueryOffends d list want tree (twice at)
+  unknown_declared : (j : ℕ) {n : Name} → slice_get (types_used list.decls) j ≡ Some n → is_undefined (names_of d.table) n ≡ true
+      → QueryOffends d list want tree (unknown n.at)
+  in_expression : {o : Offence} → Offends (query_scope d list) want tree o → QueryOffends d list want tree o
 
 -- ---- which of several decides
 
@@ -247,7 +256,7 @@ place (big_type at) = at
 abbrev pub NotAfter : Offence → Offence → Type 0
 NotAfter o p = (place o < place p) ⊎ (place o ≡ place p) × (rank o ≤ rank p)
 
--- the offence that a file is refused by
-pub record Decides (file : File) (o : Offence) : Type 0 where
-  pub stands : FileOffends file o
-  pub first : (p : Offence) → FileOffends file p → NotAfter o p
+-- of the offences that stand, this one decides
+pub record Decides (Stands : Offence → Type 0) (o : Offence) : Type 0 where
+  pub stands : Stands o
+  pub first : (p : Offence) → Stands p → NotAfter o p
