@@ -1,8 +1,8 @@
 -- Small files and queries: what they mean, or what offends in them and where.
-use Rattle.std.proofs.Common.{◌≡◌, ℕ, zero, suc, Bool, true, false, ◌&&◌, not, ap, List, [], ◌∷◌, codes, Some, None, refl, inl, inr, ◌∙◌, true≢false}
+use Rattle.std.proofs.Common.{◌≡◌, ℕ, zero, suc, Bool, true, false, ◌&&◌, not, ap, List, [], ◌∷◌, codes, Some, None, refl, inl, inr, ◌∙◌, true≢false, arith}
 use Rattle.std.specs.Prelude.{pos, eqb}
 use Rattle.txs_values.specs.Value.{Ty, whole, truth, string, named, num, text}
-use Rattle.txs_terms.specs.Expr.{Expr, none, more, val, slot, one, two, equal, choose, apply, from_text, minus}
+use Rattle.txs_terms.specs.Expr.{Expr, none, more, val, slot, local, one, two, equal, choose, apply, from_text, minus}
 use Rattle.txs_terms.specs.Defs.{Definitions}
 use Rattle.txs_syntax.specs.declared.ast.Name.{Name}
 use Rattle.txs_syntax.specs.declared.ast.Op.TheVariants as op
@@ -11,11 +11,11 @@ use Rattle.txs_syntax.specs.declared.ast.Ast.TheVariants as tree
 use Rattle.txs_syntax.specs.declared.file.File.{File}
 use Rattle.txs_syntax.specs.declared.file.Def.TheVariants as def
 use Rattle.txs_syntax.specs.declared.file.DeclList.{DeclList}
-use Rattle.txs_types.proofs.Trees.{fold_number, fold_name, fold_call, fold_binary, fold_group}
-use Rattle.txs_types.specs.Names.{Scope, Fits, scope_of}
+use Rattle.txs_types.proofs.Trees.{fold_number, fold_text, fold_if, fold_name, fold_call, fold_binary, fold_group}
+use Rattle.txs_types.specs.Names.{Scope, Fits, anything, inside, scope_of}
 use Rattle.txs_types.specs.Elaborates.{outside_step, from_outside, right_first, Elaborates, number, quoted, name, call, operated, compared, compared_back, chosen, nothing, one_more, equal_comparison, minus_operator, plus_operator, function_made, from_string_made}
-use Rattle.txs_types.specs.Offends.{first_step, whole_step, twice, unknown, arity, mismatch, empty_type, Offends, stands, unknown_name, wrong_number, other_type, from_nowhere, grouped}
-use Rattle.txs_types.specs.Files.{scope_in, FileOffends, here, twice_type, unknown_type, no_value, in_constant, IsMeant, a_function, no_function, no_constant, function_between}
+use Rattle.txs_types.specs.Offends.{first_step, whole_step, twice, unknown, arity, mismatch, empty_type, Offends, Shows, stands, as_anything, else_branch, unknown_name, wrong_number, other_type, from_nowhere, grouped}
+use Rattle.txs_types.specs.Files.{scope_in, FileOffends, here, behind, twice_type, twice_name, twice_parameter, unknown_type, no_value, in_constant, IsMeant, a_function, no_function, no_constant, function_between}
 
 abbrev word : ℕ → List ℕ → Name
 word at x = record { at = at; text = x }
@@ -125,6 +125,12 @@ is_truth truth = true
 is_truth string = false
 is_truth (named k) = false
 
+abbrev is_whole : Ty → Bool
+is_whole whole = true
+is_whole truth = false
+is_whole string = false
+is_whole (named k) = false
+
 truth_is_not_whole : truth ≡ whole → ⊥
 truth_is_not_whole p = true≢false (ap is_truth p)
 
@@ -160,3 +166,48 @@ t_is_empty = no_value 0 refl refl
 
 u_is_unknown : FileOffends (t_file (word 23 (codes "U"))) (unknown 23)
 u_is_unknown = unknown_type 0 0 refl refl refl
+
+-- TYPEDEF T ::= C ENDDEF CONSTDEF isC :: Int ::= 1 ENDDEF
+abbrev test_file : File
+test_file = record {
+  defs = def.Type (word 8 (codes "T")) (record { name = word 14 (codes "C"); fields = record { decls = [] } } ∷ [])
+      ∷ def.Const (word 32 (codes "isC")) (word 39 (codes "Int")) (digit 47 1) ∷ [];
+}
+
+test_is_there : FileOffends test_file (twice 32)
+test_is_there = twice_name (behind (behind (here refl)))
+
+-- FUNCDEF g ( n , n :: Int ) :: Int ::= 1 ENDDEF
+abbrev two_of_n : DeclList
+two_of_n = record { decls = record { names = word 12 (codes "n") ∷ word 16 (codes "n") ∷ []; ty = word 21 (codes "Int") } ∷ [] }
+
+abbrev g_file : File
+g_file = record { defs = def.Func (word 8 (codes "g")) two_of_n (word 30 (codes "Int")) (digit 38 1) ∷ [] }
+
+n_is_there : FileOffends g_file (twice 16)
+n_is_there = twice_parameter 0 refl (behind (here refl))
+
+-- IF True THEN 1 ELSE "x" FI, where Int is needed: the branch offends
+abbrev x_text : Ast
+x_text = tree.Text 20 (codes "x")
+
+whole_is_not_string : whole ≡ string → ⊥
+whole_is_not_string p = true≢false (ap is_whole p)
+
+not_fitting_whole : Fits bare whole string → ⊥
+not_fitting_whole (inl p) = whole_is_not_string p
+not_fitting_whole (inr (inl p)) = p
+not_fitting_whole (inr (inr p)) = p
+
+branch_offends : Offends bare (Some whole) (tree.If 0 (tree.Name (word 3 (codes "True"))) (digit 13 1) x_text) (mismatch 20)
+branch_offends =
+    stands (fold_if ℕ first_step 0 (tree.Name (word 3 (codes "True"))) (digit 13 1) x_text)
+    (else_branch (tree.Name (word 3 (codes "True"))) (digit 13 1) x_text
+    (stands (fold_text ℕ first_step 20 (codes "x")) (other_type x_text (fold_text Bool whole_step 20 (codes "x")) (quoted tt) not_fitting_whole)))
+
+-- LET x = y IN - x NI: y offends, and so x stands where Int is needed
+y_offends : Shows bare (tree.Name (word 8 (codes "y"))) (anything bare)
+y_offends = as_anything (stands (fold_name ℕ first_step (word 8 (codes "y"))) (unknown_name refl))
+
+x_fits : Elaborates (inside bare (codes "x") (anything bare)) (Some whole) (tree.Name (word 13 (codes "x"))) (local 0) (anything bare)
+x_fits = name refl (inr (inr (omega arith)))

@@ -25,3 +25,7 @@ fold_binary A step o a b = ap (fold-Ast A step) (sym (tree.rolls-Binary o a b)) 
 
 pub fold_group : (A : Type 0) (step : Ast-F A → A) (at : ℕ) (a : Ast) → fold-Ast A step (tree.Group at a) ≡ step (Ast-F.Group at (fold-Ast A step a))
 fold_group A step at a = ap (fold-Ast A step) (sym (tree.rolls-Group at a)) ∙ fold-roll-Ast A step (Ast-F.Group at a)
+
+pub fold_if : (A : Type 0) (step : Ast-F A → A) (at : ℕ) (p a b : Ast)
+    → fold-Ast A step (tree.If at p a b) ≡ step (Ast-F.If at (fold-Ast A step p) (fold-Ast A step a) (fold-Ast A step b))
+fold_if A step at p a b = ap (fold-Ast A step) (sym (tree.rolls-If at p a b)) ∙ fold-roll-Ast A step (Ast-F.If at p a b)
