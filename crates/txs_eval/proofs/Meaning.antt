@@ -7,7 +7,7 @@ use Rattle.txs_terms.specs.Expr.{Expr, put, filled}
 use Rattle.txs_terms.specs.Eval.{Defs, Run, run, eval, got, bad, wrong, height_limit}
 use Rattle.txs_terms.specs.Typed.{Of}
 use Rattle.txs_terms.specs.Under.{run_under}
-use Rattle.txs_terms.specs.Defs.{Definitions, bodies, signatures_of, AreDefined}
+use Rattle.txs_terms.specs.Defs.{Definitions, bodies}
 use Rattle.txs_terms.proofs.under.Node.{filled_is_under}
 use Rattle.txs_terms.proofs.typing.Putting.{put_typed, filled_all}
 use Rattle.txs_terms.proofs.typing.Runs.{run_right, run_typed}
@@ -24,15 +24,15 @@ limit_is = refl
 pub eval_is : (defs : Defs) (vs : List rust.Value) (e : Expr) → eval defs (put (filled (values_of vs)) e) ≡ run_under defs 1000 (around vs []) e 0
 eval_is defs vs e = ap (λ left. run defs left (put (filled (values_of vs)) e) 0) limit_is ∙ filled_is_under defs (values_of vs) e 1000 0
 
-closed : (d : Definitions) (vs : List Value) (e : Expr) (t : Ty) → IsTyped d vs e t → Of d.table (signatures_of d) [] [] (put (filled vs) e) t
-closed d vs e t h = put_typed d.table (signatures_of d) h.typed (filled vs) [] (filled_all d.table (signatures_of d) vs h.types h.have)
+closed : (d : Definitions) (vs : List Value) (e : Expr) (t : Ty) (h : IsTyped d vs e t) → Of d.table h.signatures [] [] (put (filled vs) e) t
+closed d vs e t h = put_typed d.table h.signatures h.typed (filled vs) [] (filled_all d.table h.signatures vs h.types h.have)
 
-pub never_wrong : (d : Definitions) (vs : List Value) (e : Expr) (t : Ty) → AreDefined d → IsTyped d vs e t → eval (bodies d) (put (filled vs) e) ≢ bad wrong
-never_wrong d vs e t are h = run_right (bodies d) (signatures_of d) are.typed (put (filled vs) e) t height_limit 0 (closed d vs e t h)
+pub never_wrong : (d : Definitions) (vs : List Value) (e : Expr) (t : Ty) → IsTyped d vs e t → eval (bodies d) (put (filled vs) e) ≢ bad wrong
+never_wrong d vs e t h = run_right (bodies d) h.signatures h.definitions (put (filled vs) e) t height_limit 0 (closed d vs e t h)
 
-pub gives_typed : (d : Definitions) (vs : List Value) (e : Expr) (t : Ty) → AreDefined d → IsTyped d vs e t
+pub gives_typed : (d : Definitions) (vs : List Value) (e : Expr) (t : Ty) → IsTyped d vs e t
     → (v : Value) (n : ℕ) → eval (bodies d) (put (filled vs) e) ≡ got v n → HasType d.table v t
-gives_typed d vs e t are h v n q = run_typed (bodies d) (signatures_of d) are.typed (put (filled vs) e) t height_limit 0 (closed d vs e t h) v n q
+gives_typed d vs e t h v n q = run_typed (bodies d) h.signatures h.definitions (put (filled vs) e) t height_limit 0 (closed d vs e t h) v n q
 
 -- ---- the answer
 

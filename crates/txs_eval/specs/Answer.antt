@@ -4,9 +4,9 @@ use Rattle.txs_values.specs.declared.value.Value as rust
 use Rattle.txs_values.specs.Value.{Ty, Value, HaveTypes}
 use Rattle.txs_values.specs.View.{value_of, values_of}
 use Rattle.txs_terms.specs.Expr.{Expr}
-use Rattle.txs_terms.specs.Typed.{Of}
+use Rattle.txs_terms.specs.Typed.{Signatures, Of, AreTyped}
 use Rattle.txs_terms.specs.Under.{Environment}
-use Rattle.txs_terms.specs.Defs.{Definitions, signatures_of}
+use Rattle.txs_terms.specs.Defs.{Definitions, bodies}
 use Rattle.txs_terms.specs.Eval.{Fault, division, range, selector, form, high, long, big, wrong, Outcome, fine, broken, Run, got, bad, Runs, gots, bads}
 use Rattle.txs_eval.specs.declared.fault.EvalFault.{EvalFault}
 use Rattle.txs_eval.specs.declared.fault.EvalFault.TheVariants as fault
@@ -28,11 +28,13 @@ Answers (bad long) (Err e) = e ≡ fault.Long
 Answers (bad big) (Err e) = e ≡ fault.Size
 Answers (bad wrong) (Err e) = ⊥
 
--- the expression has the type, where its variables have the types of these values
+-- the expression has the type by some signatures that the definitions have, where its variables have the types of these values
 pub record IsTyped (d : Definitions) (values : List Value) (e : Expr) (t : Ty) : Type 0 where
+  pub signatures : Signatures
+  pub definitions : AreTyped (bodies d) signatures
   pub types : List Ty
   pub have : HaveTypes d.table values types
-  pub typed : Of d.table (signatures_of d) types [] e t
+  pub typed : Of d.table signatures types [] e t
 
 -- ---- within the crate
 

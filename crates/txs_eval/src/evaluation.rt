@@ -30,7 +30,6 @@ pub fn eval(alloc: Global, defs: &Defs, expr: &Expr, values: &Values) -> Result<
     ensures typed { (t : TheType) → IsTyped (definitions_of defs.now) (values_of values.now) (expr_of expr.now) t
         → IfOk result (λ v. HasType defs.now.0 (value_of v) t) }
 {
-    defs.defined();
     match body(alloc, defs, HEIGHT_LIMIT, values.as_slice(), expr, 0) {
         Ok((value, _)) => Ok(value),
         Err(stop) => Err(fault_of(stop)),

@@ -2,6 +2,8 @@
 use Rattle.std.specs.Prelude.{◌≡◌, ◌↔◌, ℕ, List, Some}
 use Rattle.txs_values.specs.Value.{Ty, Value, Table, HasType}
 use Rattle.txs_values.specs.Text.{text_of}
+use Rattle.txs_values.specs.Faults.{IsReadable}
+use Rattle.txs_terms.specs.Typed.{IsTable, IsType}
 use Rattle.txs_values.specs.Spelling.{read_text}
 use Rattle.txs_values.specs.Spelled.{IsSpelling, IsNamed, IsAllowed}
 
@@ -23,3 +25,7 @@ WrittenIsRead = (table : Table) (t : Ty) (v : Value) → IsNamed table → IsAll
 abbrev pub SpelledIsOne : Type 0
 SpelledIsOne =
     (table : Table) (t : Ty) (bs : List ℕ) (v w : Value) → IsNamed table → IsSpelling table t v bs → IsSpelling table t w bs → v ≡ w
+
+-- where each type has a default, each field a type of the table, and no two constructors one name, texts of any type of it can be read
+abbrev pub TablesAreReadable : Type 0
+TablesAreReadable = (table : Table) (t : Ty) → IsTable table → IsNamed table → IsType table t → IsReadable table t

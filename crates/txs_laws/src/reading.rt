@@ -1,5 +1,5 @@
 //! What reading a text means.
-ghost use Rattle.txs_laws.specs.Spellings.{ReadIsSpelled, SpelledIsOne, TextIsSpelling, WrittenIsRead};
+ghost use Rattle.txs_laws.specs.Spellings.{ReadIsSpelled, SpelledIsOne, TextIsSpelling, WrittenIsRead, TablesAreReadable};
 
 /// A text is read as the value that it spells.
 pub fn read_is_spelled()
@@ -19,4 +19,9 @@ pub fn written_is_read()
 /// A text spells at most one value of a type.
 pub fn spelled_is_one()
     ensures { SpelledIsOne }
+{}
+
+/// The table of well typed definitions has texts that can be read.
+pub fn tables_are_readable()
+    ensures { TablesAreReadable }
 {}

@@ -9,7 +9,7 @@ pub enum LexFault {
     TooLong,
     #[error("the text is UTF-8 up to byte {at} and no further: save it as UTF-8")]
     NotUtf8 { at: usize },
-    #[error("nothing that can stand here begins with the character at byte {at}")]
+    #[error("no token begins with the character at byte {at}, or it begins none of the five escapes of a text")]
     BadChar { at: usize },
     #[error("the text in quotes that begins at byte {at} is not closed on its line: add a quote")]
     OpenText { at: usize },

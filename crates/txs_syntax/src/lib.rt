@@ -1,4 +1,4 @@
-//! The trees that a file is read into, and the tokens that spell them.
+//! The trees that a file is read into, and the tokens that spell an expression.
 #![tactic(auto)]
 
 mod ast;

@@ -196,7 +196,7 @@ fn build(
     }
 }
 
-/// The default of a type. One that no value may be as large or as high as is not made.
+/// The default of a type. Want of memory is answered for one above the limits of size and height that a value has.
 pub fn default_of(alloc: Global, table: &TypeTable, ty: Ty) -> Result<Value, NoMemory>
     requires { default_if table.now (ty_of ty) ≢ None }
     ensures { IfOk result (λ v. default_if table.now (ty_of ty) ≡ Some (value_of v)) }

@@ -18,11 +18,11 @@ use thiserror::Error;
 pub enum ReadValueFault {
     #[error("the text is not UTF-8: send it in that encoding")]
     NotText,
-    #[error("the text goes wrong at byte {at}: write a value of the type from there on")]
+    #[error("no value of the type goes on so at byte {at}: mend the text there")]
     WrongForm { at: usize },
     #[error("the number at byte {at} is past the range of Int: keep it within -2^127 to 2^127 - 1")]
     Range { at: usize },
-    #[error("behind the parenthesis at byte {at} values stand more than 1,000 deep: nest less")]
+    #[error("the values behind the parenthesis at byte {at} stand at level 1,001: nest at most 1,000 levels")]
     TooDeep { at: usize },
     #[error("the value is larger than 16,384: make it smaller")]
     TooBig,

@@ -67,7 +67,7 @@ impl TypeTable {
         }
     }
 
-    /// Puts a type behind the others.
+    /// Puts a type behind the others. Want of memory is answered where no number, below 2^32, is left for a constructor.
     pub fn add(&mut self, def: TypeDef) -> Result<(), NoMemory>
         ensures ok { OnOk result (self.new ≡ self.old ++ type_of def ∷ []) }
         ensures err { OnErr result (self.new ≡ self.old) }

@@ -14,7 +14,7 @@ fault_of-requires c =
     let vs = c.args.values.now in
     let e = expr_of c.args.expr.now in
     stops_right c.in-Err.stop (run_under (bodies d) 1000 (around vs []) e 0)
-    (λ q. never_wrong d (values_of vs) e c.requires.typed.0 c.defined.ensures c.requires.typed.1 (eval_is (bodies d) vs e ∙ q))
+    (λ q. never_wrong d (values_of vs) e c.requires.typed.0 c.requires.typed.1 (eval_is (bodies d) vs e ∙ q))
     (subst (λ l. Stopped bad c.in-Err.stop (run_under (bodies d) 1000 (around l []) e 0)) c.as_slice.ensures c.in-Err.ensures.value)
 
 pub returns-in-Ok-clause-value : goal.returns-in-Ok-clause-value
@@ -30,7 +30,7 @@ returns-in-Ok-clause-typed c = λ t h.
     let d = definitions_of c.args.defs.now in
     let vs = c.args.values.now in
     let e = expr_of c.args.expr.now in
-    gives_typed d (values_of vs) e t c.defined.ensures h (value_of c.in-Ok.value) c.in-Ok.field-0-1
+    gives_typed d (values_of vs) e t h (value_of c.in-Ok.value) c.in-Ok.field-0-1
     (eval_is (bodies d) vs e ∙ subst (λ l. run_under (bodies d) 1000 (around l []) e 0 ≡ got (value_of c.in-Ok.value) c.in-Ok.field-0-1) c.as_slice.ensures c.in-Ok.ensures.value)
 
 pub returns-in-Err-clause-value : goal.returns-in-Err-clause-value

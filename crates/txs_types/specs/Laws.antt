@@ -1,0 +1,56 @@
+-- What is to hold of these definitions. No proof of it stands yet.
+use Rattle.std.specs.Prelude.{◌≡◌, ◌⊎◌, ℕ, List, [], ◌∷◌, ◌++◌, Option, Some, None}
+use Rattle.txs_values.specs.Value.{Ty, Table, Place, place_of, field_types}
+use Rattle.txs_terms.specs.Expr.{Expr}
+use Rattle.txs_terms.specs.Typed.{IsType, AreTypes, Of}
+use Rattle.txs_terms.specs.Defs.{Function, Constant, Definitions, signatures_of}
+use Rattle.txs_syntax.specs.declared.ast.Ast.{Ast}
+use Rattle.txs_syntax.specs.declared.file.File.{File}
+use Rattle.txs_types.specs.Names.{Variable, Scope, scope_of}
+use Rattle.txs_types.specs.Elaborates.{Elaborates, HasInts}
+use Rattle.txs_types.specs.Offends.{Offence, Offends}
+use Rattle.txs_types.specs.Files.{FileOffends, IsMeant}
+
+-- a tree means one expression, of one type
+abbrev pub ElaborationIsUnique : Type 0
+ElaborationIsUnique =
+    (scope : Scope) (want : Option Ty) (tree : Ast) (e f : Expr) (s t : Ty)
+    → Elaborates scope want tree e s → Elaborates scope want tree f t → (e ≡ f) × (s ≡ t)
+
+-- a tree means an expression, or something offends in it
+abbrev pub ElaboratesOrOffends : Type 0
+ElaboratesOrOffends =
+    (scope : Scope) (want : Option Ty) (tree : Ast)
+    → ((e : Expr) × (t : Ty) × Elaborates scope want tree e t) ⊎ ((o : Offence) × Offends scope want tree o)
+
+-- and not both
+abbrev pub NotBoth : Type 0
+NotBoth =
+    (scope : Scope) (want : Option Ty) (tree : Ast) (e : Expr) (t : Ty) (o : Offence)
+    → Elaborates scope want tree e t → Offends scope want tree o → ⊥
+
+-- the type that is needed, if one is, is of the table
+abbrev pub IsNeed : Table → Option Ty → Type 0
+IsNeed table None = Unit {0}
+IsNeed table (Some t) = IsType table t
+
+-- the types in the headers of definitions, and those of the fields of their types, are of the table
+pub record HasTypes (d : Definitions) : Type 0 where
+  pub functions : (f : Function) (before after : List Function) → d.functions ≡ before ++ f ∷ after → AreTypes d.table f.takes × IsType d.table f.gives
+  pub constants : (k : Constant) (before after : List Constant) → d.constants ≡ before ++ k ∷ after → IsType d.table k.ty
+  pub fields : (c : ℕ) (p : Place) → place_of d.table c ≡ Some p → AreTypes d.table (field_types p.constructor.fields)
+
+-- what a tree means over definitions is well typed
+abbrev pub ElaboratedIsTyped : Type 0
+ElaboratedIsTyped =
+    (d : Definitions) (variables : List Variable) (want : Option Ty) (tree : Ast) (e : Expr) (t : Ty)
+    → HasTypes d → AreTypes d.table (field_types variables) → IsNeed d.table want → HasInts tree
+    → Elaborates (scope_of d variables) want tree e t → Of d.table (signatures_of d) (field_types variables) [] e t
+
+-- a file means definitions, or something offends in it
+abbrev pub MeantOrOffends : Type 0
+MeantOrOffends = (file : File) → ((d : Definitions) × IsMeant file d) ⊎ ((o : Offence) × FileOffends file o)
+
+-- and no two definitions
+abbrev pub MeaningIsUnique : Type 0
+MeaningIsUnique = (file : File) (c d : Definitions) → IsMeant file c → IsMeant file d → c ≡ d
