@@ -128,18 +128,50 @@ fn node(
             Ok((Value::Bool(same(&a, &b)), nodes))
         }
         Expr::And(a, b) => match value_at(alloc, defs, left, slots, locals, a.get(), nodes)? {
-            (Value::Bool(true), nodes) => value_at(alloc, defs, left, slots, locals, b.get(), nodes),
+            (Value::Bool(true), nodes) => value_at(
+                alloc,
+                defs,
+                left,
+                slots,
+                locals,
+                b.get(),
+                nodes,
+            ),
             (Value::Bool(false), nodes) => Ok((Value::Bool(false), nodes)),
             _ => Err(Stop::Wrong),
         },
         Expr::Or(a, b) => match value_at(alloc, defs, left, slots, locals, a.get(), nodes)? {
             (Value::Bool(true), nodes) => Ok((Value::Bool(true), nodes)),
-            (Value::Bool(false), nodes) => value_at(alloc, defs, left, slots, locals, b.get(), nodes),
+            (Value::Bool(false), nodes) => value_at(
+                alloc,
+                defs,
+                left,
+                slots,
+                locals,
+                b.get(),
+                nodes,
+            ),
             _ => Err(Stop::Wrong),
         },
         Expr::If(c, a, b) => match value_at(alloc, defs, left, slots, locals, c.get(), nodes)? {
-            (Value::Bool(true), nodes) => value_at(alloc, defs, left, slots, locals, a.get(), nodes),
-            (Value::Bool(false), nodes) => value_at(alloc, defs, left, slots, locals, b.get(), nodes),
+            (Value::Bool(true), nodes) => value_at(
+                alloc,
+                defs,
+                left,
+                slots,
+                locals,
+                a.get(),
+                nodes,
+            ),
+            (Value::Bool(false), nodes) => value_at(
+                alloc,
+                defs,
+                left,
+                slots,
+                locals,
+                b.get(),
+                nodes,
+            ),
             _ => Err(Stop::Wrong),
         },
         Expr::Call(function, args) => {

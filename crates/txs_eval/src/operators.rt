@@ -75,7 +75,12 @@ fn selected(alloc: Global, fields: &[Value], field: u32) -> Result<Value, Stop>
 }
 
 /// An operator on one value.
-pub fn unary(alloc: Global, table: &TypeTable, operator: Unary, value: &Value) -> Result<Value, Stop>
+pub fn unary(
+    alloc: Global,
+    table: &TypeTable,
+    operator: Unary,
+    value: &Value,
+) -> Result<Value, Stop>
     requires { IsNamed table.now }
     ensures { Comes result (spec.unary table.now (unary_of operator) (value_of value.now)) }
 {

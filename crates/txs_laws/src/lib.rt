@@ -18,7 +18,9 @@ pub use filling::filled_is_under;
 pub use items::{items_are_typed, runs_are_typed, steps_are_typed};
 pub use menus::items_are_steps;
 pub use paths::paths_are_bounded;
-pub use reading::{read_is_spelled, tables_are_readable, spelled_is_one, text_is_spelling, written_is_read};
+pub use reading::{
+    read_is_spelled, spelled_is_one, tables_are_readable, text_is_spelling, written_is_read,
+};
 pub use sets::{
     closed_is_reached, first_is_after, moved_is_stepped, next_is_after, quiet_is_silent,
 };

@@ -38,7 +38,6 @@ pub type DefsRef = Arc<Defs>;
 impl Model for Defs {
     ghost use Rattle.txs_terms.specs.Defs.{AreDefined};
     ghost use Rattle.txs_terms.specs.View.{Held, definitions_of};
-
     ghost use Rattle.txs_terms.specs.contracts.expr.Expr as held;
     ghost use Rattle.std.specs.Coded.{codes};
 
@@ -52,7 +51,11 @@ impl Model for Defs {
 }
 
 impl Defs {
-    pub fn new(table: TypeTable, functions: Items<FunctionDef>, constants: Items<ConstantDef>) -> Defs
+    pub fn new(
+        table: TypeTable,
+        functions: Items<FunctionDef>,
+        constants: Items<ConstantDef>,
+    ) -> Defs
         requires { AreDefined (definitions_of (table, functions, constants)) }
         ensures { result ≡ (table, functions, constants) }
     {

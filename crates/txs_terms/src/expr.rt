@@ -18,10 +18,7 @@ pub enum Unary {
     /// The test of a constructor.
     IsMadeBy(u32),
     /// The selector of a constructor's field.
-    Select {
-        constructor: u32,
-        field: u32,
-    },
+    Select { constructor: u32, field: u32 },
 }
 
 /// An operator on two values, both of which are evaluated. `==` stands apart, as `Expr::Equal`.

@@ -13,11 +13,7 @@ use std::alloc::Global;
 use txs_values::{NoMemory, Value, Values, copy_value};
 
 #[cycle(fill_all)]
-fn fill_boxed(
-    alloc: Global,
-    expr: &Boxed<Expr>,
-    values: &[Value],
-) -> Result<Boxed<Expr>, NoMemory>
+fn fill_boxed(alloc: Global, expr: &Boxed<Expr>, values: &[Value]) -> Result<Boxed<Expr>, NoMemory>
     ensures { IfOk result (λ e. expr_of e
         ≡ put (filled (values_of values.now)) (expr_of expr.now)) }
 {
