@@ -1,4 +1,4 @@
--- What is to hold of these definitions. No proof of it stands yet.
+-- What is to hold of these definitions. The first statement is proved, the others are not yet.
 use Rattle.std.specs.Prelude.{◌≡◌, ◌⊎◌, ℕ, List, [], ◌∷◌, ◌++◌, Option, Some, None}
 use Rattle.txs_values.specs.Value.{Ty, Table, Place, place_of, field_types}
 use Rattle.txs_terms.specs.Expr.{Expr}
