@@ -18,7 +18,7 @@ names (suc n) at = word at (codes "a") ∷ names n (suc at)
 
 -- a type with one constructor, whose fields are so many and of one type
 abbrev wide : ℕ → List ℕ → ℕ → List ℕ → Def
-wide at x n t = def.Type (word at x) (record { name = word (suc at) (codes "C"); fields = record { decls = record { names = names n 10; ty = word 500 t } ∷ [] } } ∷ [])
+wide at x n t = def.TypeDef (word at x) (record { name = word (suc at) (codes "C"); fields = record { decls = record { names = names n 10; ty = word 500 t } ∷ [] } } ∷ [])
 
 abbrev wide_file : File
 wide_file = record { defs = wide 8 (codes "T") 128 (codes "U") ∷ wide 600 (codes "U") 128 (codes "Int") ∷ [] }

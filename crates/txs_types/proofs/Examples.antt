@@ -40,7 +40,7 @@ abbrev body_of_f : Ast
 body_of_f = tree.If 34 n_is_zero (digit 49 0) f_again
 
 abbrev f_file : File
-f_file = record { defs = def.Func (word 8 (codes "f")) n_is_int (word 26 (codes "Int")) body_of_f ∷ [] }
+f_file = record { defs = def.FuncDef (word 8 (codes "f")) n_is_int (word 26 (codes "Int")) body_of_f ∷ [] }
 
 abbrev zero_value : Expr
 zero_value = val (num (pos 0))
@@ -117,7 +117,7 @@ abbrev sum : Ast
 sum = tree.Binary op.Plus (digit 24 1) (digit 28 2)
 
 abbrev c_file : File
-c_file = record { defs = def.Const (word 9 (codes "c")) (word 14 (codes "Bool")) (tree.Group 23 sum) ∷ [] }
+c_file = record { defs = def.ConstDef (word 9 (codes "c")) (word 14 (codes "Bool")) (tree.Group 23 sum) ∷ [] }
 
 abbrev is_truth : Ty → Bool
 is_truth whole = false
@@ -147,7 +147,7 @@ sum_is_no_truth =
 
 -- TYPEDEF Int ::= C ENDDEF
 abbrev int_file : File
-int_file = record { defs = def.Type (word 8 (codes "Int")) (record { name = word 16 (codes "C"); fields = record { decls = [] } } ∷ []) ∷ [] }
+int_file = record { defs = def.TypeDef (word 8 (codes "Int")) (record { name = word 16 (codes "C"); fields = record { decls = [] } } ∷ []) ∷ [] }
 
 int_is_there : FileOffends int_file (twice 8)
 int_is_there = twice_type (here refl)
@@ -155,7 +155,7 @@ int_is_there = twice_type (here refl)
 -- TYPEDEF T ::= C { t :: T } ENDDEF, and the same with U for the type of t
 abbrev t_file : Name → File
 t_file u = record {
-  defs = def.Type (word 8 (codes "T")) (record {
+  defs = def.TypeDef (word 8 (codes "T")) (record {
     name = word 14 (codes "C");
     fields = record { decls = record { names = word 18 (codes "t") ∷ []; ty = u } ∷ [] };
   } ∷ []) ∷ [];
@@ -170,8 +170,8 @@ u_is_unknown = unknown_type 0 0 refl refl refl
 -- TYPEDEF T ::= C ENDDEF CONSTDEF isC :: Int ::= 1 ENDDEF
 abbrev test_file : File
 test_file = record {
-  defs = def.Type (word 8 (codes "T")) (record { name = word 14 (codes "C"); fields = record { decls = [] } } ∷ [])
-      ∷ def.Const (word 32 (codes "isC")) (word 39 (codes "Int")) (digit 47 1) ∷ [];
+  defs = def.TypeDef (word 8 (codes "T")) (record { name = word 14 (codes "C"); fields = record { decls = [] } } ∷ [])
+      ∷ def.ConstDef (word 32 (codes "isC")) (word 39 (codes "Int")) (digit 47 1) ∷ [];
 }
 
 test_is_there : FileOffends test_file (twice 32)
@@ -182,7 +182,7 @@ abbrev two_of_n : DeclList
 two_of_n = record { decls = record { names = word 12 (codes "n") ∷ word 16 (codes "n") ∷ []; ty = word 21 (codes "Int") } ∷ [] }
 
 abbrev g_file : File
-g_file = record { defs = def.Func (word 8 (codes "g")) two_of_n (word 30 (codes "Int")) (digit 38 1) ∷ [] }
+g_file = record { defs = def.FuncDef (word 8 (codes "g")) two_of_n (word 30 (codes "Int")) (digit 38 1) ∷ [] }
 
 n_is_there : FileOffends g_file (twice 16)
 n_is_there = twice_parameter 0 refl (behind (here refl))

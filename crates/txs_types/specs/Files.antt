@@ -21,9 +21,9 @@ use Rattle.txs_types.specs.Offends.{Offence, twice, unknown, arity, mismatch, em
 -- the names of the types that a file defines, in order
 abbrev pub type_names : List Def → List Name
 type_names [] = []
-type_names (def.Type x cs ∷ ds) = x ∷ type_names ds
-type_names (def.Func x ps r e ∷ ds) = type_names ds
-type_names (def.Const x t e ∷ ds) = type_names ds
+type_names (def.TypeDef x cs ∷ ds) = x ∷ type_names ds
+type_names (def.FuncDef x ps r e ∷ ds) = type_names ds
+type_names (def.ConstDef x t e ∷ ds) = type_names ds
 
 -- the place of the first of this name; the first has number k, and where there is none it is the number behind the last
 abbrev pub type_number : List ℕ → ℕ → List Name → ℕ
@@ -58,9 +58,9 @@ constructors_of types cs = map (constructor_of types) cs
 -- the types that definitions define
 abbrev pub table_in : List Name → List Def → Table
 table_in types [] = []
-table_in types (def.Type x cs ∷ ds) = record { name = x.text; constructors = constructors_of types cs } ∷ table_in types ds
-table_in types (def.Func x ps r e ∷ ds) = table_in types ds
-table_in types (def.Const x t e ∷ ds) = table_in types ds
+table_in types (def.TypeDef x cs ∷ ds) = record { name = x.text; constructors = constructors_of types cs } ∷ table_in types ds
+table_in types (def.FuncDef x ps r e ∷ ds) = table_in types ds
+table_in types (def.ConstDef x t e ∷ ds) = table_in types ds
 
 abbrev pub table_of : File → Table
 table_of file = table_in (type_names file.defs) file.defs
@@ -70,11 +70,11 @@ table_of file = table_in (type_names file.defs) file.defs
 -- what definitions let names mean, in order; the types before them, their constructors, the functions and the constants are so many
 abbrev pub globals_in : List Name → ℕ → ℕ → ℕ → ℕ → List Def → List Global
 globals_in types k c f n [] = []
-globals_in types k c f n (def.Type x cs ∷ ds) =
+globals_in types k c f n (def.TypeDef x cs ∷ ds) =
     constructor_globals k c (constructors_of types cs) ++ globals_in types (suc k) (c + length cs) f n ds
-globals_in types k c f n (def.Func x ps r e ∷ ds) =
+globals_in types k c f n (def.FuncDef x ps r e ∷ ds) =
     record { name = x.text; means = named_function f (field_types (variables_of types ps)) (type_of types r.text) } ∷ globals_in types k c (suc f) n ds
-globals_in types k c f n (def.Const x t e ∷ ds) =
+globals_in types k c f n (def.ConstDef x t e ∷ ds) =
     record { name = x.text; means = named_constant n (type_of types t.text) } ∷ globals_in types k c f (suc n) ds
 
 -- the scope of a body in the file, with these parameters
@@ -118,9 +118,9 @@ constructor_names (c ∷ cs) =
 -- the names that definitions define for expressions
 abbrev pub defined_names : List Def → List Name
 defined_names [] = []
-defined_names (def.Type x cs ∷ ds) = constructor_names cs ++ defined_names ds
-defined_names (def.Func x ps r e ∷ ds) = x ∷ defined_names ds
-defined_names (def.Const x t e ∷ ds) = x ∷ defined_names ds
+defined_names (def.TypeDef x cs ∷ ds) = constructor_names cs ++ defined_names ds
+defined_names (def.FuncDef x ps r e ∷ ds) = x ∷ defined_names ds
+defined_names (def.ConstDef x t e ∷ ds) = x ∷ defined_names ds
 
 -- the type names that declarations use
 abbrev pub types_used : List Decl → List Name
@@ -132,9 +132,9 @@ types_of_fields (c ∷ cs) = types_used c.fields.decls ++ types_of_fields cs
 
 -- the type names that a definition uses
 abbrev pub types_named : Def → List Name
-types_named (def.Type x cs) = types_of_fields cs
-types_named (def.Func x ps r e) = types_used ps.decls ++ r ∷ []
-types_named (def.Const x t e) = t ∷ []
+types_named (def.TypeDef x cs) = types_of_fields cs
+types_named (def.FuncDef x ps r e) = types_used ps.decls ++ r ∷ []
+types_named (def.ConstDef x t e) = t ∷ []
 
 -- a type name without a definition
 abbrev pub is_undefined : List Name → Name → Bool
@@ -149,14 +149,14 @@ any_undefined types (n ∷ ns) = is_undefined types n || any_undefined types ns
 -- the types, where one with a field of an unknown type is given a constructor without fields instead
 abbrev pub excused : List Name → List Def → Table
 excused types [] = []
-excused types (def.Type x cs ∷ ds) =
+excused types (def.TypeDef x cs ∷ ds) =
     record {
       name = x.text;
       constructors = cond (any_undefined types (types_of_fields cs)) (record { name = []; fields = [] } ∷ []) (constructors_of types cs);
     }
     ∷ excused types ds
-excused types (def.Func x ps r e ∷ ds) = excused types ds
-excused types (def.Const x t e ∷ ds) = excused types ds
+excused types (def.FuncDef x ps r e ∷ ds) = excused types ds
+excused types (def.ConstDef x t e ∷ ds) = excused types ds
 
 -- the default of the file's type of this number
 abbrev pub default_in : File → ℕ → Option Value
@@ -169,7 +169,7 @@ pub data FileOffends (file : File) : Offence → Type 0 where
   -- among types, among the names of expressions, among the parameters of a function
   twice_type : {at : ℕ} → Repeats built_in_types (type_names file.defs) at → FileOffends file (twice at)
   twice_name : {at : ℕ} → Repeats built_in_names (defined_names file.defs) at → FileOffends file (twice at)
-  twice_parameter : (i : ℕ) {at : ℕ} {x r : Name} {ps : DeclList} {e : Ast} → slice_get file.defs i ≡ Some (def.Func x ps r e)
+  twice_parameter : (i : ℕ) {at : ℕ} {x r : Name} {ps : DeclList} {e : Ast} → slice_get file.defs i ≡ Some (def.FuncDef x ps r e)
       → Repeats [] (names_in ps.decls) at → FileOffends file (twice at)
   -- the type of a field, a parameter, a result or a constant
   unknown_type : (i j : ℕ) {d : Def} {n : Name} → slice_get file.defs i ≡ Some d → slice_get (types_named d) j ≡ Some n
@@ -179,9 +179,9 @@ pub data FileOffends (file : File) : Offence → Type 0 where
   big_default : (k : ℕ) {n : Name} {v : Value} → slice_get (type_names file.defs) k ≡ Some n → default_in file k ≡ Some v
       → (value_size_limit < size v) ⊎ (value_height_limit < height v) → FileOffends file (big_type n.at)
   -- the body of a function or a constant, needed at its type
-  in_function : (i : ℕ) {x r : Name} {ps : DeclList} {e : Ast} {o : Offence} → slice_get file.defs i ≡ Some (def.Func x ps r e)
+  in_function : (i : ℕ) {x r : Name} {ps : DeclList} {e : Ast} {o : Offence} → slice_get file.defs i ≡ Some (def.FuncDef x ps r e)
       → Offends (scope_in file (variables_of (type_names file.defs) ps)) (Some (type_of (type_names file.defs) r.text)) e o → FileOffends file o
-  in_constant : (i : ℕ) {x t : Name} {e : Ast} {o : Offence} → slice_get file.defs i ≡ Some (def.Const x t e)
+  in_constant : (i : ℕ) {x t : Name} {e : Ast} {o : Offence} → slice_get file.defs i ≡ Some (def.ConstDef x t e)
       → Offends (scope_in file []) (Some (type_of (type_names file.defs) t.text)) e o → FileOffends file o
 
 -- the functions of definitions, in order: each body means its expression
@@ -190,24 +190,24 @@ pub data AreFunctions (file : File) : List Def → List Function → Type 0 wher
   a_function : {x r : Name} {ps : DeclList} {a : Ast} {ds : List Def} {fs : List Function} {e : Expr} {t : Ty}
       → Elaborates (scope_in file (variables_of (type_names file.defs) ps)) (Some (type_of (type_names file.defs) r.text)) a e t
       → AreFunctions file ds fs
-      → AreFunctions file (def.Func x ps r a ∷ ds) (record {
+      → AreFunctions file (def.FuncDef x ps r a ∷ ds) (record {
         name = x.text;
         takes = field_types (variables_of (type_names file.defs) ps);
         gives = type_of (type_names file.defs) r.text;
         body = e;
       } ∷ fs)
-  type_between : {x : Name} {cs : List ConDef} {ds : List Def} {fs : List Function} → AreFunctions file ds fs → AreFunctions file (def.Type x cs ∷ ds) fs
-  constant_between : {x t : Name} {a : Ast} {ds : List Def} {fs : List Function} → AreFunctions file ds fs → AreFunctions file (def.Const x t a ∷ ds) fs
+  type_between : {x : Name} {cs : List ConDef} {ds : List Def} {fs : List Function} → AreFunctions file ds fs → AreFunctions file (def.TypeDef x cs ∷ ds) fs
+  constant_between : {x t : Name} {a : Ast} {ds : List Def} {fs : List Function} → AreFunctions file ds fs → AreFunctions file (def.ConstDef x t a ∷ ds) fs
 
 pub data AreConstants (file : File) : List Def → List Constant → Type 0 where
   no_constant : AreConstants file [] []
   a_constant : {x n : Name} {a : Ast} {ds : List Def} {ks : List Constant} {e : Expr} {t : Ty}
       → Elaborates (scope_in file []) (Some (type_of (type_names file.defs) n.text)) a e t
       → AreConstants file ds ks
-      → AreConstants file (def.Const x n a ∷ ds) (record { name = x.text; ty = type_of (type_names file.defs) n.text; body = e } ∷ ks)
-  type_between : {x : Name} {cs : List ConDef} {ds : List Def} {ks : List Constant} → AreConstants file ds ks → AreConstants file (def.Type x cs ∷ ds) ks
+      → AreConstants file (def.ConstDef x n a ∷ ds) (record { name = x.text; ty = type_of (type_names file.defs) n.text; body = e } ∷ ks)
+  type_between : {x : Name} {cs : List ConDef} {ds : List Def} {ks : List Constant} → AreConstants file ds ks → AreConstants file (def.TypeDef x cs ∷ ds) ks
   function_between : {x r : Name} {ps : DeclList} {a : Ast} {ds : List Def} {ks : List Constant} → AreConstants file ds ks
-      → AreConstants file (def.Func x ps r a ∷ ds) ks
+      → AreConstants file (def.FuncDef x ps r a ∷ ds) ks
 
 -- the definitions that the file means
 pub record IsMeant (file : File) (d : Definitions) : Type 0 where
