@@ -7,3 +7,4 @@ pub mod Steps
 pub mod Nodes
 pub mod Meaning
 pub mod Readings
+pub mod Examples

@@ -24,7 +24,7 @@ use Rattle.txs_eval.specs.declared.fault.Stop.TheVariants as stop
 use Rattle.txs_eval.specs.Answer.{Stopped, around}
 use Rattle.txs_eval.proofs.Views.{at_cons}
 
-spread : (es : List Expr) → operands (gathered es) ≡ es
+pub spread : (es : List Expr) → operands (gathered es) ≡ es
 spread [] = refl
 spread (e ∷ es) = ap (λ l. e ∷ l) (spread es)
 
@@ -32,19 +32,17 @@ spread_values : (vs : List Value) → listed (packed vs) ≡ vs
 spread_values [] = refl
 spread_values (v ∷ vs) = ap (λ l. v ∷ l) (spread_values vs)
 
--- ---- the view
-
-at_constant : (k : ℕ) → expr_of (variant.Constant k) ≡ constant k
-at_constant k = ap expr_of (sym (variant.rolls-Constant k)) ∙ fold-roll-Expr Expr expr_step (Expr-F.Constant k)
-
-at_call : (f : ℕ) (es : List rust_expr.Expr) → expr_of (variant.Call f es) ≡ apply f (gathered (exprs_of es))
-at_call f es = ap expr_of (sym (variant.rolls-Call f es)) ∙ fold-roll-Expr Expr expr_step (Expr-F.Call f es)
-
-at_build : (c : ℕ) (es : List rust_expr.Expr) → expr_of (variant.Build c es) ≡ build c (gathered (exprs_of es))
-at_build c es = ap expr_of (sym (variant.rolls-Build c es)) ∙ fold-roll-Expr Expr expr_step (Expr-F.Build c es)
-
-at_let : (x : List ℕ) (a b : rust_expr.Expr) → expr_of (variant.Let x a b) ≡ let_in x (expr_of a) (expr_of b)
-at_let x a b = ap expr_of (sym (variant.rolls-Let x a b)) ∙ fold-roll-Expr Expr expr_step (Expr-F.Let x a b)
+-- where the evaluation of several stops
+runs_stopped : (r : Runs) (go : List Value → ℕ → Run) (s : Stop) → Stopped bads s r → Stopped bad s (then_runs r go)
+runs_stopped r go stop.Division p = rw p refl
+runs_stopped r go stop.Range p = rw p refl
+runs_stopped r go stop.Selector p = rw p refl
+runs_stopped r go stop.Form p = rw p refl
+runs_stopped r go stop.High p = rw p refl
+runs_stopped r go stop.Long p = rw p refl
+runs_stopped r go stop.Size p = rw p refl
+runs_stopped r go stop.Wrong p = rw p refl
+runs_stopped r go stop.NoMemory p = tt
 
 -- ---- the bodies of definitions
 
@@ -75,87 +73,33 @@ module _ (h : Held) where
 
   -- ---- the nodes
 
-  module _ (ev : Under) (env : Environment) (e : rust_expr.Expr) (n : ℕ) where
-    abbrev pub the_node : Run
-    the_node = node_under (bodies (definitions_of h)) ev env (expr_of e) n
+  module _ (ev : Under) (env : Environment) (n : ℕ) where
+    pub constant_is : (k : ℕ) (d : rust_constant.ConstantDef) → k < length h.2 → d ≡ get_or h.2 k d
+        → node_under (bodies (definitions_of h)) ev env (constant k) n ≡ ev (parameters []) (expr_of d.body) n
+    constant_is k d l q = ap (λ o. body_run o (λ b. ev (parameters []) b n)) (constant_there k d l q)
 
-    pub constant_is : (k : ℕ) (d : rust_constant.ConstantDef) → e ≡ variant.Constant k → k < length h.2 → d ≡ get_or h.2 k d
-        → the_node ≡ ev (parameters []) (expr_of d.body) n
-    constant_is k d is l q =
-        ap (λ x. node_under (bodies (definitions_of h)) ev env x n) (ap expr_of is ∙ at_constant k)
-        ∙ ap (λ o. body_run o (λ b. ev (parameters []) b n)) (constant_there k d l q)
+    pub constant_missing : (k : ℕ) → length h.2 ≤ k → node_under (bodies (definitions_of h)) ev env (constant k) n ≡ bad wrong
+    constant_missing k l = ap (λ o. body_run o (λ b. ev (parameters []) b n)) (no_constant k l)
 
-    pub constant_missing : (k : ℕ) → e ≡ variant.Constant k → length h.2 ≤ k → the_node ≡ bad wrong
-    constant_missing k is l =
-        ap (λ x. node_under (bodies (definitions_of h)) ev env x n) (ap expr_of is ∙ at_constant k)
-        ∙ ap (λ o. body_run o (λ b. ev (parameters []) b n)) (no_constant k l)
+    module _ (f : ℕ) (es : List Expr) where
+      abbrev pub the_call : Run
+      the_call = node_under (bodies (definitions_of h)) ev env (apply f (gathered es)) n
 
-    call_is : (f : ℕ) (es : List rust_expr.Expr) → e ≡ variant.Call f es
-        → the_node ≡ then_runs (each_under (ev env) (exprs_of es) n) (λ vs m. body_run (slice_get (bodies (definitions_of h)).functions f) (λ b. ev (parameters vs) b m))
-    call_is f es is =
-        ap (λ x. node_under (bodies (definitions_of h)) ev env x n) (ap expr_of is ∙ at_call f es)
-        ∙ ap (λ l. then_runs (each_under (ev env) l n) (λ vs m. body_run (slice_get (bodies (definitions_of h)).functions f) (λ b. ev (parameters vs) b m))) (spread (exprs_of es))
+      abbrev entered : List Value → ℕ → Run
+      entered vs m = body_run (slice_get (bodies (definitions_of h)).functions f) (λ b. ev (parameters vs) b m)
 
-    pub called : (f : ℕ) (es : List rust_expr.Expr) (vs : List Value) (m : ℕ) (d : rust_function.FunctionDef) → e ≡ variant.Call f es
-        → each_under (ev env) (exprs_of es) n ≡ gots vs m → f < length h.1 → d ≡ get_or h.1 f d → the_node ≡ ev (parameters vs) (expr_of d.body) m
-    called f es vs m d is g l q =
-        call_is f es is
-        ∙ (ap (λ r. then_runs r (λ ws i. body_run (slice_get (bodies (definitions_of h)).functions f) (λ b. ev (parameters ws) b i))) g
-        ∙ ap (λ o. body_run o (λ b. ev (parameters vs) b m)) (function_there f d l q))
+      call_is : the_call ≡ then_runs (each_under (ev env) es n) entered
+      call_is = ap (λ l. then_runs (each_under (ev env) l n) entered) (spread es)
 
-    pub call_missing : (f : ℕ) (es : List rust_expr.Expr) (vs : List Value) (m : ℕ) → e ≡ variant.Call f es
-        → each_under (ev env) (exprs_of es) n ≡ gots vs m → length h.1 ≤ f → the_node ≡ bad wrong
-    call_missing f es vs m is g l =
-        call_is f es is
-        ∙ (ap (λ r. then_runs r (λ ws i. body_run (slice_get (bodies (definitions_of h)).functions f) (λ b. ev (parameters ws) b i))) g
-        ∙ ap (λ o. body_run o (λ b. ev (parameters vs) b m)) (no_function f l))
+      pub called : (vs : List Value) (m : ℕ) (d : rust_function.FunctionDef) → each_under (ev env) es n ≡ gots vs m
+          → f < length h.1 → d ≡ get_or h.1 f d → the_call ≡ ev (parameters vs) (expr_of d.body) m
+      called vs m d g l q = call_is ∙ (ap (λ r. then_runs r entered) g ∙ ap (λ o. body_run o (λ b. ev (parameters vs) b m)) (function_there f d l q))
 
-    build_is : (c : ℕ) (es : List rust_expr.Expr) → e ≡ variant.Build c es
-        → the_node ≡ then_runs (each_under (ev env) (exprs_of es) n) (λ vs. after (sized (cons c (packed vs))))
-    build_is c es is =
-        ap (λ x. node_under (bodies (definitions_of h)) ev env x n) (ap expr_of is ∙ at_build c es)
-        ∙ ap (λ l. then_runs (each_under (ev env) l n) (λ vs. after (sized (cons c (packed vs))))) (spread (exprs_of es))
+      pub call_missing : (vs : List Value) (m : ℕ) → each_under (ev env) es n ≡ gots vs m → length h.1 ≤ f → the_call ≡ bad wrong
+      call_missing vs m g l = call_is ∙ (ap (λ r. then_runs r entered) g ∙ ap (λ o. body_run o (λ b. ev (parameters vs) b m)) (no_function f l))
 
-    pub built : (c : ℕ) (es : List rust_expr.Expr) (vs : List Value) (m : ℕ) → e ≡ variant.Build c es
-        → each_under (ev env) (exprs_of es) n ≡ gots vs m → the_node ≡ after (sized (cons c (packed vs))) m
-    built c es vs m is g = build_is c es is ∙ ap (λ r. then_runs r (λ ws. after (sized (cons c (packed ws))))) g
-
-    pub let_is : (x : List ℕ) (a b : rust_expr.Expr) (v : Value) (m : ℕ) → e ≡ variant.Let x a b → ev env (expr_of a) n ≡ got v m
-        → the_node ≡ ev (with_variable env v) (expr_of b) m
-    let_is x a b v m is g =
-        ap (λ y. node_under (bodies (definitions_of h)) ev env y n) (ap expr_of is ∙ at_let x a b) ∙ ap (λ r. then_run r (λ w. ev (with_variable env w) (expr_of b))) g
-
-  -- ---- where the evaluation stops
-
-  runs_stopped : (r : Runs) (go : List Value → ℕ → Run) (s : Stop) → Stopped bads s r → Stopped bad s (then_runs r go)
-  runs_stopped r go stop.Division p = rw p refl
-  runs_stopped r go stop.Range p = rw p refl
-  runs_stopped r go stop.Selector p = rw p refl
-  runs_stopped r go stop.Form p = rw p refl
-  runs_stopped r go stop.High p = rw p refl
-  runs_stopped r go stop.Long p = rw p refl
-  runs_stopped r go stop.Size p = rw p refl
-  runs_stopped r go stop.Wrong p = rw p refl
-  runs_stopped r go stop.NoMemory p = tt
-
-  pub after_stopped : (o : Outcome) (m : ℕ) (s : Stop) → Stopped broken s o → Stopped bad s (after o m)
-  after_stopped o m stop.Division p = rw p refl
-  after_stopped o m stop.Range p = rw p refl
-  after_stopped o m stop.Selector p = rw p refl
-  after_stopped o m stop.Form p = rw p refl
-  after_stopped o m stop.High p = rw p refl
-  after_stopped o m stop.Long p = rw p refl
-  after_stopped o m stop.Size p = rw p refl
-  after_stopped o m stop.Wrong p = rw p refl
-  after_stopped o m stop.NoMemory p = tt
-
-  pub call_stopped : (ev : Under) (env : Environment) (e : rust_expr.Expr) (n f : ℕ) (es : List rust_expr.Expr) (s : Stop) → e ≡ variant.Call f es
-      → Stopped bads s (each_under (ev env) (exprs_of es) n) → Stopped bad s (the_node ev env e n)
-  call_stopped ev env e n f es s is p = subst (Stopped bad s) (sym (call_is ev env e n f es is)) (runs_stopped _ _ s p)
-
-  pub build_stopped : (ev : Under) (env : Environment) (e : rust_expr.Expr) (n c : ℕ) (es : List rust_expr.Expr) (s : Stop) → e ≡ variant.Build c es
-      → Stopped bads s (each_under (ev env) (exprs_of es) n) → Stopped bad s (the_node ev env e n)
-  build_stopped ev env e n c es s is p = subst (Stopped bad s) (sym (build_is ev env e n c es is)) (runs_stopped _ _ s p)
+      pub call_stopped : (s : Stop) → Stopped bads s (each_under (ev env) es n) → Stopped bad s the_call
+      call_stopped s p = subst (Stopped bad s) (sym call_is) (runs_stopped _ entered s p)
 
 -- one more local around
 pub one_more_local : (slots locals : List rust.Value) (v : rust.Value) → with_variable (around slots locals) (value_of v) ≡ around slots (locals ++ v ∷ [])

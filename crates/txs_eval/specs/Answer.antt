@@ -1,13 +1,13 @@
 -- What a result of the program says of an evaluation.
-use Rattle.std.specs.Prelude.{◌≡◌, ℕ, List, [], Result, Ok, Err}
+use Rattle.std.specs.Prelude.{◌≡◌, ℕ, Bool, List, [], Result, Ok, Err}
 use Rattle.txs_values.specs.declared.value.Value as rust
-use Rattle.txs_values.specs.Value.{Ty, Value, HaveTypes}
+use Rattle.txs_values.specs.Value.{Ty, Value, bool, HaveTypes}
 use Rattle.txs_values.specs.View.{value_of, values_of}
 use Rattle.txs_terms.specs.Expr.{Expr}
 use Rattle.txs_terms.specs.Typed.{Signatures, Of, AreTyped}
 use Rattle.txs_terms.specs.Under.{Environment}
 use Rattle.txs_terms.specs.Defs.{Definitions, bodies}
-use Rattle.txs_terms.specs.Eval.{Fault, division, range, selector, form, high, long, big, wrong, Outcome, fine, broken, Run, got, bad, Runs, gots, bads}
+use Rattle.txs_terms.specs.Eval.{Fault, division, range, selector, form, high, long, big, wrong, Outcome, fine, broken, Run, got, bad, Runs, gots, bads, then_run, if_true}
 use Rattle.txs_eval.specs.declared.fault.EvalFault.{EvalFault}
 use Rattle.txs_eval.specs.declared.fault.EvalFault.TheVariants as fault
 use Rattle.txs_eval.specs.declared.fault.Stop.{Stop}
@@ -63,6 +63,11 @@ Ends (Err e) r = Stopped bad e r
 abbrev pub EndEach : Result (List rust.Value × ℕ) Stop → Runs → Type 0
 EndEach (Ok p) r = r ≡ gots (values_of p.0) p.1
 EndEach (Err e) r = Stopped bads e r
+
+-- the end of an evaluation that is to give a truth value
+abbrev pub EndTruth : Result (Bool × ℕ) Stop → Run → Type 0
+EndTruth (Ok p) r = r ≡ got (bool p.0) p.1
+EndTruth (Err e) r = (a b : ℕ → Run) → Stopped bad e (then_run r (λ x m. if_true x (a m) (b m)))
 
 -- the values of the slots and of the locals around an expression
 abbrev pub around : List rust.Value → List rust.Value → Environment

@@ -4,6 +4,7 @@
 mod equality;
 mod evaluation;
 mod fault;
+mod found;
 mod numbers;
 mod operators;
 mod texts;

@@ -11,41 +11,41 @@ use Rattle.txs_syntax.specs.declared.ast.Ast.TheVariants as tree
 use Rattle.txs_syntax.specs.declared.file.File.{File}
 use Rattle.txs_syntax.specs.declared.file.Def.TheVariants as def
 use Rattle.txs_syntax.specs.declared.file.DeclList.{DeclList}
-use Rattle.txs_types.proofs.Trees.{fold_number, fold_text, fold_if, fold_name, fold_call, fold_binary, fold_group}
+use Rattle.txs_types.proofs.Trees.{fold_number, fold_text, fold_if, fold_name, fold_call, fold_binary, fold_group, fold_let, fold_negate}
 use Rattle.txs_types.specs.Names.{Scope, Fits, anything, inside, scope_of}
 use Rattle.txs_types.specs.Elaborates.{outside_step, from_outside, right_first, Elaborates, number, quoted, name, call, operated, compared, compared_back, chosen, nothing, one_more, equal_comparison, minus_operator, plus_operator, function_made, from_string_made}
-use Rattle.txs_types.specs.Offends.{first_step, whole_step, twice, unknown, arity, mismatch, empty_type, Offends, Shows, stands, as_anything, else_branch, unknown_name, wrong_number, other_type, from_nowhere, grouped}
+use Rattle.txs_types.specs.Offends.{first, first_step, whole_step, twice, unknown, arity, mismatch, empty_type, Offends, Shows, stands, as_anything, else_branch, unknown_name, wrong_number, other_type, from_nowhere, grouped}
 use Rattle.txs_types.specs.Files.{scope_in, FileOffends, here, behind, twice_type, twice_name, twice_parameter, unknown_type, no_value, in_constant, IsMeant, a_function, no_function, no_constant, function_between}
 
-abbrev word : ℕ → List ℕ → Name
+abbrev pub word : ℕ → List ℕ → Name
 word at x = record { at = at; text = x }
 
-abbrev digit : ℕ → ℕ → Ast
+abbrev pub digit : ℕ → ℕ → Ast
 digit at n = tree.Number at (pos n)
 
 -- FUNCDEF f ( n :: Int ) :: Int ::= IF n == 0 THEN 0 ELSE f(n - 1) FI ENDDEF
-abbrev n_is_int : DeclList
+abbrev pub n_is_int : DeclList
 n_is_int = record { decls = record { names = word 12 (codes "n") ∷ []; ty = word 17 (codes "Int") } ∷ [] }
 
-abbrev less_one : Ast
+abbrev pub less_one : Ast
 less_one = tree.Binary op.Minus (tree.Name (word 58 (codes "n"))) (digit 62 1)
 
-abbrev n_is_zero : Ast
+abbrev pub n_is_zero : Ast
 n_is_zero = tree.Binary op.Equal (tree.Name (word 37 (codes "n"))) (digit 42 0)
 
-abbrev f_again : Ast
+abbrev pub f_again : Ast
 f_again = tree.Call (word 56 (codes "f")) (less_one ∷ [])
 
-abbrev body_of_f : Ast
+abbrev pub body_of_f : Ast
 body_of_f = tree.If 34 n_is_zero (digit 49 0) f_again
 
-abbrev f_file : File
+abbrev pub f_file : File
 f_file = record { defs = def.FuncDef (word 8 (codes "f")) n_is_int (word 26 (codes "Int")) body_of_f ∷ [] }
 
 abbrev zero_value : Expr
 zero_value = val (num (pos 0))
 
-abbrev f_meant : Definitions
+abbrev pub f_meant : Definitions
 f_meant = record {
   table = [];
   functions = record {
@@ -60,7 +60,7 @@ f_meant = record {
 left_first : right_first (tree.Name (word 37 (codes "n"))) (digit 42 0) ≡ false
 left_first = ap (λ b. b && not (from_outside (digit 42 0))) (fold_name Bool outside_step (word 37 (codes "n")))
 
-f_is_meant : IsMeant f_file f_meant
+pub f_is_meant : IsMeant f_file f_meant
 f_is_meant = record {
   table = refl;
   functions = a_function
@@ -92,6 +92,34 @@ read_and_compared : Elaborates bare None (tree.Binary op.Equal one_read (digit 1
 read_and_compared =
     compared_back one_read (digit 19 2) equal_comparison reads_back (number tt)
     (call (tree.Text 11 (codes "1") ∷ []) refl (one_more (quoted (inl refl)) nothing) (from_string_made whole (val (text (codes "1")))) (inl refl)) tt
+
+-- which trees can be typed from outside alone: LET by its body, IF by its THEN branch
+abbrev x_name : Name
+x_name = word 4 (codes "x")
+
+abbrev yes : Ast
+yes = tree.Name (word 3 (codes "True"))
+
+read_is_outside : from_outside one_read ≡ true
+read_is_outside = fold_call Bool outside_step (word 0 (codes "fromString")) (tree.Text 11 (codes "1") ∷ [])
+
+digit_is_inside : (at n : ℕ) → from_outside (digit at n) ≡ false
+digit_is_inside at n = fold_number Bool outside_step at (pos n)
+
+group_is_outside : from_outside (tree.Group 0 one_read) ≡ true
+group_is_outside = fold_group Bool outside_step 0 one_read ∙ read_is_outside
+
+let_is_outside : from_outside (tree.Let 0 x_name (digit 8 1) one_read) ≡ true
+let_is_outside = fold_let Bool outside_step 0 x_name (digit 8 1) one_read ∙ read_is_outside
+
+let_is_inside : from_outside (tree.Let 0 x_name one_read (digit 30 1)) ≡ false
+let_is_inside = fold_let Bool outside_step 0 x_name one_read (digit 30 1) ∙ digit_is_inside 30 1
+
+if_is_outside : from_outside (tree.If 0 yes one_read (digit 30 1)) ≡ true
+if_is_outside = fold_if Bool outside_step 0 yes one_read (digit 30 1) ∙ read_is_outside
+
+if_is_inside : from_outside (tree.If 0 yes (digit 13 1) one_read) ≡ false
+if_is_inside = fold_if Bool outside_step 0 yes (digit 13 1) one_read ∙ digit_is_inside 13 1
 
 -- fromString("1") alone
 read_from_nowhere : Offends bare None one_read (mismatch 0)
@@ -144,6 +172,16 @@ sum_is_no_truth =
     in_constant 0 refl (stands (fold_group ℕ first_step 23 sum)
     (grouped sum (other_type sum (fold_binary Bool whole_step op.Plus (digit 24 1) (digit 28 2))
     (operated (digit 24 1) (digit 28 2) plus_operator (number (inl refl)) (number (inl refl)) tt) not_fitting)))
+
+-- the first tokens of (1) + 2, of - 1 and of LET x = 1 IN 2 NI
+first_of_sum : first (tree.Binary op.Plus (tree.Group 23 (digit 24 1)) (digit 29 2)) ≡ 23
+first_of_sum = fold_binary ℕ first_step op.Plus (tree.Group 23 (digit 24 1)) (digit 29 2) ∙ fold_group ℕ first_step 23 (digit 24 1)
+
+first_of_negation : first (tree.Negate 5 (digit 7 1)) ≡ 5
+first_of_negation = fold_negate ℕ first_step 5 (digit 7 1)
+
+first_of_let : first (tree.Let 5 x_name (digit 13 1) (digit 18 2)) ≡ 5
+first_of_let = fold_let ℕ first_step 5 x_name (digit 13 1) (digit 18 2)
 
 -- TYPEDEF Int ::= C ENDDEF
 abbrev int_file : File

@@ -2,3 +2,12 @@ mod Trees
 mod Examples
 mod Big
 mod Unique
+mod NotBoth
+mod Judged
+mod Globals
+mod WellTyped
+mod FileLaws
+mod Tables
+mod Distinct
+mod Defined
+mod Accepted

@@ -29,3 +29,10 @@ fold_group A step at a = ap (fold-Ast A step) (sym (tree.rolls-Group at a)) ∙ 
 pub fold_if : (A : Type 0) (step : Ast-F A → A) (at : ℕ) (p a b : Ast)
     → fold-Ast A step (tree.If at p a b) ≡ step (Ast-F.If at (fold-Ast A step p) (fold-Ast A step a) (fold-Ast A step b))
 fold_if A step at p a b = ap (fold-Ast A step) (sym (tree.rolls-If at p a b)) ∙ fold-roll-Ast A step (Ast-F.If at p a b)
+
+pub fold_negate : (A : Type 0) (step : Ast-F A → A) (at : ℕ) (a : Ast) → fold-Ast A step (tree.Negate at a) ≡ step (Ast-F.Negate at (fold-Ast A step a))
+fold_negate A step at a = ap (fold-Ast A step) (sym (tree.rolls-Negate at a)) ∙ fold-roll-Ast A step (Ast-F.Negate at a)
+
+pub fold_let : (A : Type 0) (step : Ast-F A → A) (at : ℕ) (x : Name) (a b : Ast)
+    → fold-Ast A step (tree.Let at x a b) ≡ step (Ast-F.Let at x (fold-Ast A step a) (fold-Ast A step b))
+fold_let A step at x a b = ap (fold-Ast A step) (sym (tree.rolls-Let at x a b)) ∙ fold-roll-Ast A step (Ast-F.Let at x a b)

@@ -15,10 +15,10 @@ abbrev from_some : {A : Type 0} → A → Option A → A
 from_some a None = a
 from_some a (Some b) = b
 
-some_injective : {A : Type 0} {a b : A} → Some a ≡ Some b → a ≡ b
+pub some_injective : {A : Type 0} {a b : A} → Some a ≡ Some b → a ≡ b
 some_injective {a = a} p = ap (from_some a) p
 
-same_operator : {o : Op} {n n' t t' : Ty} {m m' : Expr → Expr → Expr} → Operator o n t m → Operator o n' t' m' → (n ≡ n') × (t ≡ t') × (m ≡ m')
+pub same_operator : {o : Op} {n n' t t' : Ty} {m m' : Expr → Expr → Expr} → Operator o n t m → Operator o n' t' m' → (n ≡ n') × (t ≡ t') × (m ≡ m')
 same_operator or_operator or_operator = (refl, refl, refl)
 same_operator and_operator and_operator = (refl, refl, refl)
 same_operator less_operator less_operator = (refl, refl, refl)
@@ -32,11 +32,11 @@ same_operator times_operator times_operator = (refl, refl, refl)
 same_operator divide_operator divide_operator = (refl, refl, refl)
 same_operator remainder_operator remainder_operator = (refl, refl, refl)
 
-same_comparison : {o : Op} {m m' : Expr → Expr → Expr} → Comparison o m → Comparison o m' → m ≡ m'
+pub same_comparison : {o : Op} {m m' : Expr → Expr → Expr} → Comparison o m → Comparison o m' → m ≡ m'
 same_comparison equal_comparison equal_comparison = refl
 same_comparison different_comparison different_comparison = refl
 
-no_operator : {o : Op} {n t : Ty} {m m' : Expr → Expr → Expr} → Comparison o m → Operator o n t m' → ⊥
+pub no_operator : {o : Op} {n t : Ty} {m m' : Expr → Expr → Expr} → Comparison o m → Operator o n t m' → ⊥
 no_operator equal_comparison p = elim p [ ]
 no_operator different_comparison p = elim p [ ]
 
@@ -52,11 +52,11 @@ same_made (from_string_made t e) (from_string_made t' e') = (refl, refl)
 same_made (len_made w e) (len_made w' e') = (refl, refl)
 same_made (at_made w e f) (at_made w' e' f') = (refl, refl)
 
-made_of : {A B C : Type 0} {m m' : A → B → C} {a a' : A} {b b' : B} → m ≡ m' → a ≡ a' → b ≡ b' → m a b ≡ m' a' b'
+pub made_of : {A B C : Type 0} {m m' : A → B → C} {a a' : A} {b b' : B} → m ≡ m' → a ≡ a' → b ≡ b' → m a b ≡ m' a' b'
 made_of {m' = m'} {a = a} {a' = a'} {b = b} p q r = ap (λ m. m a b) p ∙ (ap (λ x. m' x b) q ∙ ap (m' a') r)
 
 -- what the derivation of a tree is made of, by the tree's outermost form
-data Layer (scope : Scope) : Option Ty → Ast-F Ast → Expr → Ty → Type 0 where
+pub data Layer (scope : Scope) : Option Ty → Ast-F Ast → Expr → Ty → Type 0 where
   l_number : {want : Option Ty} (at : ℕ) (n : ℤ) → Layer scope want (Ast-F.Number at n) (val (num n)) whole
   l_quoted : {want : Option Ty} (at : ℕ) (s : List ℕ) → Layer scope want (Ast-F.Text at s) (val (text s)) string
   l_name : {want : Option Ty} (x : Name) (e : Expr) (t : Ty) → meaning scope x.text ≡ Some (e, t) → Layer scope want (Ast-F.Name x) e t
@@ -78,10 +78,10 @@ data Layer (scope : Scope) : Option Ty → Ast-F Ast → Expr → Ty → Type 0 
   l_bound : {want : Option Ty} (at : ℕ) (x : Name) (a b : Ast) (e f : Expr) (s t : Ty) → Elaborates scope None a e s
       → Elaborates (inside scope x.text s) want b f t → Layer scope want (Ast-F.Let at x a b) (let_in x.text e f) t
 
-at_form : {scope : Scope} {want : Option Ty} {e : Expr} {t : Ty} {l m : Ast-F Ast} → m ≡ l → Layer scope want l e t → Layer scope want m e t
+pub at_form : {scope : Scope} {want : Option Ty} {e : Expr} {t : Ty} {l m : Ast-F Ast} → m ≡ l → Layer scope want l e t → Layer scope want m e t
 at_form {scope = scope} {want = want} {e = e} {t = t} p d = subst (λ l. Layer scope want l e t) (sym p) d
 
-layer : {scope : Scope} {want : Option Ty} {a : Ast} {e : Expr} {t : Ty} → Elaborates scope want a e t → Layer scope want (out-Ast a) e t
+pub layer : {scope : Scope} {want : Option Ty} {a : Ast} {e : Expr} {t : Ty} → Elaborates scope want a e t → Layer scope want (out-Ast a) e t
 layer (number {at = at} {n = n} p) = at_form (tree.outs-Number at n) (l_number at n)
 layer (quoted {at = at} {s = s} p) = at_form (tree.outs-Text at s) (l_quoted at s)
 layer (name {x = y} {e = e} {t = t} k p) = at_form (tree.outs-Name y) (l_name y e t k)
@@ -100,19 +100,19 @@ layer (chosen_freely {at = at} p a b {c = c} {e = e} {f = f} {q = q} {s = s} {t 
 layer (bound {at = at} {x = y} a b {e = e} {f = f} {s = s} {t = t} d1 d2) = at_form (tree.outs-Let at y a b) (l_bound at y a b e f s t d1 d2)
 
 -- what else the tree means is the same
-abbrev Same : Scope → Option Ty → Ast → Expr → Ty → Type 0
+abbrev pub Same : Scope → Option Ty → Ast → Expr → Ty → Type 0
 Same scope want a e s = (f : Expr) (t : Ty) → Elaborates scope want a f t → (e ≡ f) × (s ≡ t)
 
 abbrev SameEach : Scope → List (Option Ty) → List Ast → List Expr → Type 0
 SameEach scope needs args es = (fs : List Expr) → ElaboratesEach scope needs args fs → es ≡ fs
 
-of_number : {scope : Scope} {want : Option Ty} {at : ℕ} {n : ℤ} {e : Expr} {t : Ty} → Layer scope want (Ast-F.Number at n) e t → (val (num n) ≡ e) × (whole ≡ t)
+pub of_number : {scope : Scope} {want : Option Ty} {at : ℕ} {n : ℤ} {e : Expr} {t : Ty} → Layer scope want (Ast-F.Number at n) e t → (val (num n) ≡ e) × (whole ≡ t)
 of_number (l_number at n) = (refl, refl)
 
-of_quoted : {scope : Scope} {want : Option Ty} {at : ℕ} {s : List ℕ} {e : Expr} {t : Ty} → Layer scope want (Ast-F.Text at s) e t → (val (text s) ≡ e) × (string ≡ t)
+pub of_quoted : {scope : Scope} {want : Option Ty} {at : ℕ} {s : List ℕ} {e : Expr} {t : Ty} → Layer scope want (Ast-F.Text at s) e t → (val (text s) ≡ e) × (string ≡ t)
 of_quoted (l_quoted at s) = (refl, refl)
 
-of_name : {scope : Scope} {want : Option Ty} {x : Name} {e f : Expr} {s t : Ty} → meaning scope x.text ≡ Some (e, s) → Layer scope want (Ast-F.Name x) f t → (e ≡ f) × (s ≡ t)
+pub of_name : {scope : Scope} {want : Option Ty} {x : Name} {e f : Expr} {s t : Ty} → meaning scope x.text ≡ Some (e, s) → Layer scope want (Ast-F.Name x) f t → (e ≡ f) × (s ≡ t)
 of_name h (l_name x f t k) = (ap (λ r. r.0) (some_injective (sym h ∙ k)), ap (λ r. r.1) (some_injective (sym h ∙ k)))
 
 of_call : {scope : Scope} {want : Option Ty} {x : Name} {args : List Ast} {m : Meaning} {needs : List (Option Ty)} {es : List Expr} {e f : Expr} {s t : Ty}
@@ -123,11 +123,11 @@ of_call {scope = scope} {want = want} {m = m} h each made (l_call x args m' need
     let n' = subst (λ r. Makes want r.0 fs f t) same n in
     same_made made (subst (λ es. Makes want m es f t) (sym alike) n')
 
-of_negated : {scope : Scope} {want : Option Ty} {at : ℕ} {a : Ast} {e f : Expr} {r t : Ty} → Same scope (Some whole) a e r
+pub of_negated : {scope : Scope} {want : Option Ty} {at : ℕ} {a : Ast} {e f : Expr} {r t : Ty} → Same scope (Some whole) a e r
     → Layer scope want (Ast-F.Negate at a) f t → (one negate e ≡ f) × (whole ≡ t)
 of_negated same (l_negated at a f s d) = (ap (one negate) (same f s d).0, refl)
 
-of_operated : {scope : Scope} {want : Option Ty} {o : Op} {a b : Ast} {e f g : Expr} {need q r t u : Ty} {make : Expr → Expr → Expr} → Operator o need t make
+pub of_operated : {scope : Scope} {want : Option Ty} {o : Op} {a b : Ast} {e f g : Expr} {need q r t u : Ty} {make : Expr → Expr → Expr} → Operator o need t make
     → Same scope (Some need) a e q → Same scope (Some need) b f r → Layer scope want (Ast-F.Binary o a b) g u → (make e f ≡ g) × (t ≡ u)
 of_operated {scope = scope} k left right (l_operated o a b e' f' need' q' r' u make' k' d1 d2) =
     let same = same_operator k k' in (
@@ -138,7 +138,7 @@ of_operated {scope = scope} k left right (l_operated o a b e' f' need' q' r' u m
 of_operated k left right (l_compared o a b e' f' s' r' make' c h d1 d2) = absurd (no_operator c k)
 of_operated k left right (l_compared_back o a b e' f' s' r' make' c h d1 d2) = absurd (no_operator c k)
 
-of_compared : {scope : Scope} {want : Option Ty} {o : Op} {a b : Ast} {e f g : Expr} {r s u : Ty} {make : Expr → Expr → Expr} → Comparison o make
+pub of_compared : {scope : Scope} {want : Option Ty} {o : Op} {a b : Ast} {e f g : Expr} {r s u : Ty} {make : Expr → Expr → Expr} → Comparison o make
     → right_first a b ≡ false → Same scope None a e s → Same scope (Some s) b f r → Layer scope want (Ast-F.Binary o a b) g u → (make e f ≡ g) × (truth ≡ u)
 of_compared c h left right (l_operated o a b e' f' need' q' r' u make' k' d1 d2) = absurd (no_operator c k')
 of_compared {scope = scope} c h left right (l_compared o a b e' f' s' r' make' c' h' d1 d2) =
@@ -146,7 +146,7 @@ of_compared {scope = scope} c h left right (l_compared o a b e' f' s' r' make' c
     (made_of (same_comparison c c') same.0 (right f' r' (subst (λ n. Elaborates scope (Some n) b f' r') (sym same.1) d2)).0, refl)
 of_compared c h left right (l_compared_back o a b e' f' s' r' make' c' h' d1 d2) = absurd (true≢false (sym h' ∙ h))
 
-of_back : {scope : Scope} {want : Option Ty} {o : Op} {a b : Ast} {e f g : Expr} {r s u : Ty} {make : Expr → Expr → Expr} → Comparison o make
+pub of_back : {scope : Scope} {want : Option Ty} {o : Op} {a b : Ast} {e f g : Expr} {r s u : Ty} {make : Expr → Expr → Expr} → Comparison o make
     → right_first a b ≡ true → Same scope None b f s → Same scope (Some s) a e r → Layer scope want (Ast-F.Binary o a b) g u → (make e f ≡ g) × (truth ≡ u)
 of_back c h right left (l_operated o a b e' f' need' q' r' u make' k' d1 d2) = absurd (no_operator c k')
 of_back c h right left (l_compared o a b e' f' s' r' make' c' h' d1 d2) = absurd (true≢false (sym h ∙ h'))

@@ -1,15 +1,19 @@
--- What is to hold of these definitions. The first statement is proved, the others are not yet.
-use Rattle.std.specs.Prelude.{◌≡◌, ◌⊎◌, ℕ, List, [], ◌∷◌, ◌++◌, Option, Some, None}
+-- What holds of these definitions: each statement is proved in proofs/.
+use Rattle.std.specs.Prelude.{◌≡◌, ◌⊎◌, ℕ, List, [], ◌∷◌, ◌++◌, Option, Some, None, slice_get}
 use Rattle.txs_values.specs.Value.{Ty, Table, Place, place_of, field_types}
 use Rattle.txs_terms.specs.Expr.{Expr}
 use Rattle.txs_terms.specs.Typed.{IsType, AreTypes, Of}
-use Rattle.txs_terms.specs.Defs.{Function, Constant, Definitions, signatures_of}
+use Rattle.txs_terms.specs.Defs.{Function, Constant, Definitions, signatures_of, AreDefined}
 use Rattle.txs_syntax.specs.declared.ast.Ast.{Ast}
+use Rattle.txs_values.specs.Spelled.{IsName}
+use Rattle.txs_syntax.specs.declared.ast.Name.{Name}
+use Rattle.txs_syntax.specs.declared.file.DeclList.{DeclList}
+use Rattle.txs_syntax.specs.declared.file.Def.TheVariants as def
 use Rattle.txs_syntax.specs.declared.file.File.{File}
 use Rattle.txs_types.specs.Names.{Variable, Scope, scope_of}
 use Rattle.txs_types.specs.Elaborates.{Elaborates, HasInts}
 use Rattle.txs_types.specs.Offends.{Offence, Offends}
-use Rattle.txs_types.specs.Files.{FileOffends, IsMeant}
+use Rattle.txs_types.specs.Files.{FileOffends, IsMeant, table_of}
 
 -- a tree means one expression, of one type
 abbrev pub ElaborationIsUnique : Type 0
@@ -54,3 +58,17 @@ MeantOrOffends = (file : File) → ((d : Definitions) × IsMeant file d) ⊎ ((o
 -- and no two definitions
 abbrev pub MeaningIsUnique : Type 0
 MeaningIsUnique = (file : File) (c d : Definitions) → IsMeant file c → IsMeant file d → c ≡ d
+
+-- the numbers in the bodies of the file are in the range of Int
+pub record FileHasInts (file : File) : Type 0 where
+  pub functions : (i : ℕ) (x r : Name) (ps : DeclList) (e : Ast) → slice_get file.defs i ≡ Some (def.FuncDef x ps r e) → HasInts e
+  pub constants : (i : ℕ) (x t : Name) (e : Ast) → slice_get file.defs i ≡ Some (def.ConstDef x t e) → HasInts e
+
+-- the constructors of the file are called by names
+abbrev pub FileHasNames : File → Type 0
+FileHasNames file = (c : ℕ) (p : Place) → place_of (table_of file) c ≡ Some p → IsName p.constructor.name
+
+-- what a file without an offence means is well typed, each of its types has a default, and no two constructors have one name
+abbrev pub MeantIsDefined : Type 0
+MeantIsDefined =
+    (file : File) (d : Definitions) → FileHasNames file → FileHasInts file → ((o : Offence) → FileOffends file o → ⊥) → IsMeant file d → AreDefined d

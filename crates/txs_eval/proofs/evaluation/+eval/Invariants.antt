@@ -11,7 +11,37 @@ abbrev pub decreases-value_at : goal.decreases-value_at
 decreases-value_at l = 4 * l.left
 
 abbrev pub decreases-node : goal.decreases-node
-decreases-node l = 4 * l.left + 2
+decreases-node l = 4 * l.left + 3
+
+abbrev pub decreases-constant : goal.decreases-constant
+decreases-constant l = 4 * l.left + 2
+
+abbrev pub decreases-one : goal.decreases-one
+decreases-one l = 4 * l.left + 2
+
+abbrev pub decreases-two : goal.decreases-two
+decreases-two l = 4 * l.left + 2
+
+abbrev pub decreases-equal : goal.decreases-equal
+decreases-equal l = 4 * l.left + 2
+
+abbrev pub decreases-both : goal.decreases-both
+decreases-both l = 4 * l.left + 2
+
+abbrev pub decreases-either : goal.decreases-either
+decreases-either l = 4 * l.left + 2
+
+abbrev pub decreases-choose : goal.decreases-choose
+decreases-choose l = 4 * l.left + 2
+
+abbrev pub decreases-call : goal.decreases-call
+decreases-call l = 4 * l.left + 2
+
+abbrev pub decreases-build : goal.decreases-build
+decreases-build l = 4 * l.left + 2
+
+abbrev pub decreases-let_in : goal.decreases-let_in
+decreases-let_in l = 4 * l.left + 2
 
 abbrev pub decreases-body : goal.decreases-body
 decreases-body l = 4 * l.left + 1

@@ -1,8 +1,7 @@
-use Rattle.std.proofs.Common.{◌≡◌, ℤ, FitsSigned, SomeIff, subst, sym, ap, ◌∙◌}
+use Rattle.std.proofs.Common.{FitsSigned, SomeIff, subst, sym, ap, ◌∙◌}
 use Rattle.std.specs.Int.{w128}
 use Rattle.std.proofs.lemmas.Int.{to_z-of_z}
 use mir.Val.{to_z, of_z}
-use Rattle.txs_values.specs.View.{value_of}
 use Rattle.txs_values.specs.Value.{num}
 use Rattle.txs_terms.specs.Eval.{fine}
 use Rattle.txs_eval.proofs.Ranges.{within, past}

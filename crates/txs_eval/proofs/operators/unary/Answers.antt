@@ -1,6 +1,6 @@
-use Rattle.std.proofs.Common.{◌≡◌, subst, sym, ap, ◌∙◌, slice_get}
+use Rattle.std.proofs.Common.{◌≡◌, subst, sym, slice_get}
 use Rattle.txs_values.specs.declared.value.Value.TheVariants as variant
-use Rattle.txs_values.specs.View.{value_of, values_of}
+use Rattle.txs_values.specs.View.{values_of}
 use Rattle.txs_terms.specs.Eval as spec
 use Rattle.txs_eval.specs.Answer.{Comes}
 use Rattle.txs_eval.proofs.Nodes.{selecting}

@@ -1,0 +1,147 @@
+ghost use Rattle.std.specs.Prelude.{◌≡◌, ◌≤◌, IfOk, OnErr, IfErr, Ok, List, [], ◌∷◌, ◌++◌, slice_get};
+ghost use Rattle.txs_values.specs.Spelled.{IsNamed};
+ghost use Rattle.txs_values.specs.declared.value.Value as rust;
+ghost use Rattle.txs_values.specs.Value.{bool, cons, packed, same_value};
+ghost use Rattle.txs_values.specs.View.{value_of, values_of};
+ghost use Rattle.txs_terms.specs.Eval as spec;
+ghost use Rattle.txs_terms.specs.Under as under;
+ghost use Rattle.txs_terms.specs.View.{unary_of, binary_of};
+ghost use Rattle.txs_eval.specs.Answer.{Comes, Ends, EndEach, EndTruth, Stopped};
+
+use crate::equality::same;
+use crate::fault::Stop;
+use crate::operators::{binary, unary};
+use crate::texts::sized;
+use std::alloc::Global;
+use txs_terms::{Binary, Unary};
+use txs_values::{TypeTable, Value, Values, copy_value};
+
+/// A value that stands in the expression.
+pub fn copied(alloc: Global, value: &Value, nodes: u32) -> Result<(Value, u32), Stop>
+    ensures value { Ends result (spec.got (value_of value.now) nodes) }
+    ensures within { IfOk result (λ p. p.1 ≡ nodes) }
+{
+    Ok((copy_value(alloc, value)?, nodes))
+}
+
+/// The value of a variable.
+pub fn looked_up(alloc: Global, values: &[Value], at: u32, nodes: u32) -> Result<(Value, u32), Stop>
+    ensures value { Ends result (under.looked_up (slice_get (values_of values.now) at) nodes) }
+    ensures within { IfOk result (λ p. p.1 ≡ nodes) }
+{
+    match values.get(at as usize) {
+        Some(value) => Ok((copy_value(alloc, value)?, nodes)),
+        None => Err(Stop::Wrong),
+    }
+}
+
+/// What an operator gives, with the nodes that were entered so far.
+pub fn counted(found: Result<Value, Stop>, nodes: u32) -> Result<(Value, u32), Stop>
+    ensures value { (o : spec.Outcome) → Comes found o → Ends result (spec.after o nodes) }
+    ensures within { IfOk result (λ p. p.1 ≡ nodes) }
+{
+    match found {
+        Ok(value) => Ok((value, nodes)),
+        Err(stop) => Err(stop),
+    }
+}
+
+/// An operator on the value that was found.
+pub fn on_one(
+    alloc: Global,
+    table: &TypeTable,
+    operator: Unary,
+    found: Result<(Value, u32), Stop>,
+) -> Result<(Value, u32), Stop>
+    requires named { IsNamed table.now }
+    requires within { IfOk found (λ p. p.1 ≤ 1000000) }
+    ensures value { (r : spec.Run) → Ends found r → Ends result (spec.then_run r (λ x. spec.after (spec.unary table.now (unary_of operator) x))) }
+    ensures within { IfOk result (λ p. p.1 ≤ 1000000) }
+{
+    match found {
+        Ok((a, nodes)) => counted(unary(alloc, table, operator, &a), nodes),
+        Err(stop) => Err(stop),
+    }
+}
+
+/// An operator on a value and the one that was found behind it.
+pub fn on_two(
+    alloc: Global,
+    operator: Binary,
+    a: Value,
+    found: Result<(Value, u32), Stop>,
+) -> Result<(Value, u32), Stop>
+    requires within { IfOk found (λ p. p.1 ≤ 1000000) }
+    ensures value { (r : spec.Run) → Ends found r → Ends result (spec.then_run r (λ y. spec.after (spec.binary (binary_of operator) (value_of a) y))) }
+    ensures within { IfOk result (λ p. p.1 ≤ 1000000) }
+{
+    match found {
+        Ok((b, nodes)) => counted(binary(alloc, operator, &a, &b), nodes),
+        Err(stop) => Err(stop),
+    }
+}
+
+/// Whether a value and the one that was found behind it are the same.
+pub fn on_equal(a: Value, found: Result<(Value, u32), Stop>) -> Result<(Value, u32), Stop>
+    requires within { IfOk found (λ p. p.1 ≤ 1000000) }
+    ensures value { (r : spec.Run) → Ends found r → Ends result (spec.then_run r (λ y. spec.got (bool (same_value (value_of a) y)))) }
+    ensures within { IfOk result (λ p. p.1 ≤ 1000000) }
+{
+    match found {
+        Ok((b, nodes)) => Ok((Value::Bool(same(&a, &b)), nodes)),
+        Err(stop) => Err(stop),
+    }
+}
+
+/// The truth value that was found.
+pub fn truth(found: Result<(Value, u32), Stop>) -> Result<(bool, u32), Stop>
+    requires within { IfOk found (λ p. p.1 ≤ 1000000) }
+    ensures value { (r : spec.Run) → Ends found r → EndTruth result r }
+    ensures within { IfOk result (λ p. p.1 ≤ 1000000) }
+{
+    match found {
+        Ok((Value::Bool(b), nodes)) => Ok((b, nodes)),
+        Ok(_) => Err(Stop::Wrong),
+        Err(stop) => Err(stop),
+    }
+}
+
+/// A constructor with the fields that were found.
+pub fn built(constructor: u32, found: Result<(Values, u32), Stop>) -> Result<(Value, u32), Stop>
+    requires within { IfOk found (λ p. p.1 ≤ 1000000) }
+    ensures value { (r : spec.Runs) → EndEach found r → Ends result (spec.then_runs r (λ vs. spec.after (spec.sized (cons constructor (packed vs))))) }
+    ensures within { IfOk result (λ p. p.1 ≤ 1000000) }
+{
+    match found {
+        Ok((fields, nodes)) => {
+            let made = Value::Cons {
+                id: constructor,
+                fields,
+            };
+            counted(sized(made), nodes)
+        }
+        Err(stop) => Err(stop),
+    }
+}
+
+/// The value that was found goes behind these.
+pub fn pushed(values: &mut Values, found: Result<(Value, u32), Stop>) -> Result<u32, Stop>
+    ensures value { IfOk result (λ n. (v : rust.Value) × (found ≡ Ok (v, n)) × (values.new ≡ values.old ++ v ∷ [])) }
+    ensures kept { OnErr result (values.new ≡ values.old) }
+    ensures stopped { (r : spec.Run) → Ends found r → IfErr result (λ s. Stopped spec.bad s r) }
+{
+    match found {
+        Ok((value, nodes)) => {
+            values.push(value)?;
+            Ok(nodes)
+        }
+        Err(stop) => Err(stop),
+    }
+}
+
+/// The innermost local goes.
+pub fn unbind(locals: &mut Values)
+    ensures { (vs : List rust.Value) → (v : rust.Value) → locals.old ≡ vs ++ v ∷ [] → locals.new ≡ vs }
+{
+    locals.pop();
+}
