@@ -54,6 +54,8 @@ has f (suc k) s e = absurd (none_some e)
 
 pub recursive_defined : (f : List ℕ) → AreDefined (recursive f)
 recursive_defined f = record {
+  functions = (((tt, tt), tt), tt);
+  constants = tt;
   typed = record { table = no_table; functions = has f; constants = λ k t e. absurd (none_some e) };
   named = no_names;
 }

@@ -1,10 +1,10 @@
 -- The definitions of a file: its types, functions and constants, with their names and types.
-use Rattle.std.specs.Prelude.{ℕ, List, [], map}
+use Rattle.std.specs.Prelude.{ℕ, List, [], ◌∷◌, map}
 use Rattle.txs_values.specs.Value.{Ty, Table}
 use Rattle.txs_values.specs.Spelled.{IsNamed}
 use Rattle.txs_terms.specs.Expr.{Expr}
 use Rattle.txs_terms.specs.Eval.{Defs}
-use Rattle.txs_terms.specs.Typed.{Signature, Signatures, AreTyped}
+use Rattle.txs_terms.specs.Typed.{Signature, Signatures, IsType, AreTypes, AreTyped}
 
 -- a function, its body over its parameters
 pub record Function : Type 0 where
@@ -36,7 +36,19 @@ signatures_of d = record {
   automata = [];
 }
 
--- each body is of its type, each type has a default, and no two constructors have one name
+-- the types in the header of each function are of the table
+abbrev pub HaveHeaders : Table → List Function → Type 0
+HaveHeaders table [] = Unit {0}
+HaveHeaders table (f ∷ fs) = (AreTypes table f.takes × IsType table f.gives) × HaveHeaders table fs
+
+-- the type of each constant is of the table
+abbrev pub HaveTypes : Table → List Constant → Type 0
+HaveTypes table [] = Unit {0}
+HaveTypes table (k ∷ ks) = IsType table k.ty × HaveTypes table ks
+
+-- each header is of types of the table, each body is of its type, each type has a default, and no two constructors have one name
 pub record AreDefined (d : Definitions) : Type 0 where
+  pub functions : HaveHeaders d.table d.functions
+  pub constants : HaveTypes d.table d.constants
   pub typed : AreTyped (bodies d) (signatures_of d)
   pub named : IsNamed d.table

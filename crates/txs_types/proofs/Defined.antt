@@ -5,7 +5,7 @@ use Rattle.std.proofs.lemmas.List.{length-map}
 use Rattle.std.specs.Prelude.{option_map}
 use Rattle.txs_values.specs.Value.{Ty, Table, place_of, place_from, field_types}
 use Rattle.txs_terms.specs.Typed.{Signature, IsType, AreTypes, Of}
-use Rattle.txs_terms.specs.Defs.{Function, Constant, Definitions, signatures_of, AreDefined}
+use Rattle.txs_terms.specs.Defs.{Function, Constant, Definitions, HaveHeaders, HaveTypes, signatures_of, AreDefined}
 use Rattle.txs_syntax.specs.declared.ast.Name.{Name}
 use Rattle.txs_syntax.specs.declared.file.File.{File}
 use Rattle.txs_syntax.specs.declared.file.Def.{Def}
@@ -24,29 +24,25 @@ use Rattle.txs_types.proofs.Distinct.{distinct_names}
 
 -- ---- the headers
 
-abbrev IsHeader : Table → Function → Type 0
-IsHeader table f = AreTypes table f.takes × IsType table f.gives
+have_headers : {file : File} {ds : List Def} {fs : List Function} → AreFunctions file ds fs → (table : Table) → length table ≡ length (type_names file.defs)
+    → AllKnown (type_names file.defs) ds → HaveHeaders table fs
+have_headers no_function table same known = tt
+have_headers {file = file} (a_function {r = r} {ps = ps} d rest) table same known = (
+  (
+    known_variables table (type_names file.defs) same ps.decls (defined_left (type_names file.defs) (types_used ps.decls) (r ∷ []) known.0),
+    known_type table (type_names file.defs) r same (defined_right (type_names file.defs) (types_used ps.decls) (r ∷ []) known.0).0,
+  ),
+  have_headers rest table same known.1,
+)
+have_headers (type_between rest) table same known = have_headers rest table same known.1
+have_headers (constant_between rest) table same known = have_headers rest table same known.1
 
-function_types : {file : File} {ds : List Def} {fs : List Function} → AreFunctions file ds fs → (table : Table) → length table ≡ length (type_names file.defs)
-    → AllKnown (type_names file.defs) ds → (i : ℕ) (f : Function) → slice_get fs i ≡ Some f → IsHeader table f
-function_types no_function table same known i f h = absurd (none≢some h)
-function_types {file = file} (a_function {x = x} {r = r} {ps = ps} d rest) table same known zero f h =
-    subst (IsHeader table) (some_injective h) (
-      known_variables table (type_names file.defs) same ps.decls (defined_left (type_names file.defs) (types_used ps.decls) (r ∷ []) known.0),
-      known_type table (type_names file.defs) r same (defined_right (type_names file.defs) (types_used ps.decls) (r ∷ []) known.0).0,
-    )
-function_types (a_function d rest) table same known (suc i) f h = function_types rest table same known.1 i f h
-function_types (type_between rest) table same known i f h = function_types rest table same known.1 i f h
-function_types (constant_between rest) table same known i f h = function_types rest table same known.1 i f h
-
-constant_types : {file : File} {ds : List Def} {ks : List Constant} → AreConstants file ds ks → (table : Table) → length table ≡ length (type_names file.defs)
-    → AllKnown (type_names file.defs) ds → (i : ℕ) (k : Constant) → slice_get ks i ≡ Some k → IsType table k.ty
-constant_types no_constant table same known i k h = absurd (none≢some h)
-constant_types {file = file} (a_constant {n = n} d rest) table same known zero k h =
-    subst (λ (k : Constant). IsType table k.ty) (some_injective h) (known_type table (type_names file.defs) n same known.0.0)
-constant_types (a_constant d rest) table same known (suc i) k h = constant_types rest table same known.1 i k h
-constant_types (type_by rest) table same known i k h = constant_types rest table same known.1 i k h
-constant_types (function_between rest) table same known i k h = constant_types rest table same known.1 i k h
+have_types : {file : File} {ds : List Def} {ks : List Constant} → AreConstants file ds ks → (table : Table) → length table ≡ length (type_names file.defs)
+    → AllKnown (type_names file.defs) ds → HaveTypes table ks
+have_types no_constant table same known = tt
+have_types {file = file} (a_constant {n = n} d rest) table same known = (known_type table (type_names file.defs) n same known.0.0, have_types rest table same known.1)
+have_types (type_by rest) table same known = have_types rest table same known.1
+have_types (function_between rest) table same known = have_types rest table same known.1
 
 -- ---- the names of the file
 
@@ -160,9 +156,6 @@ unmapped make [] i b h = absurd (none≢some h)
 unmapped make (x ∷ xs) zero b h = (x, refl, some_injective h)
 unmapped make (x ∷ xs) (suc i) b h = unmapped make xs i b h
 
-at_place : {A : Type 0} (all before : List A) (a : A) (after : List A) → all ≡ before ++ a ∷ after → slice_get all (length before) ≡ Some a
-at_place all before a after e = ap (λ l. slice_get l (length before)) e ∙ get_behind before a after
-
 module _ (file : File) (names : FileHasNames file) (ints : FileHasInts file) (none : NoOffence file) (fs : List Function) (ks : List Constant)
     (p : AreFunctions file file.defs fs) (q : AreConstants file file.defs ks) where
   abbrev types : List Name
@@ -179,8 +172,8 @@ module _ (file : File) (names : FileHasNames file) (ints : FileHasInts file) (no
 
   has_types : HasTypes made
   has_types = record {
-    functions = λ f before after e. function_types p (table_of file) same known (length before) f (at_place fs before f after e);
-    constants = λ k before after e. constant_types q (table_of file) same known (length before) k (at_place ks before k after e);
+    functions = have_headers p (table_of file) same known;
+    constants = have_types q (table_of file) same known;
     fields = λ c place e. known_places (table_of file) types same 0 file.defs c place known e;
   }
 
@@ -200,6 +193,8 @@ module _ (file : File) (names : FileHasNames file) (ints : FileHasInts file) (no
 
   are_defined : AreDefined made
   are_defined = record {
+    functions = have_headers p (table_of file) same known;
+    constants = have_types q (table_of file) same known;
     typed = record {
       table = record { defaults = λ k below. has_default file none k below; known = λ c place e. known_places (table_of file) types same 0 file.defs c place known e };
       functions = λ i s h.

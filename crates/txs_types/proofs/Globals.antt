@@ -4,7 +4,7 @@ use Rattle.std.proofs.lemmas.Option.{slice_get-map}
 use Rattle.std.specs.Prelude.{option_map}
 use Rattle.txs_values.specs.Value.{Ty, Field, Constructor, Table, Place, place_of, place_in, place_from, field_types}
 use Rattle.txs_terms.specs.Typed.{Signature, IsType, AreTypes}
-use Rattle.txs_terms.specs.Defs.{Function, Constant, Definitions, signatures_of}
+use Rattle.txs_terms.specs.Defs.{Function, Constant, Definitions, HaveHeaders, HaveTypes, signatures_of}
 use Rattle.txs_types.specs.Names.{Variable, Global, scope_of, Meaning, named_value, named_constant, named_function, named_constructor, named_test, named_selector, named_not, named_to_string, named_from_string, named_len, named_at, last_of, global_of, built_ins, selectors, constructor_globals, table_globals, function_globals, constant_globals}
 use Rattle.txs_types.specs.Laws.{HasTypes}
 use Rattle.txs_types.proofs.Unique.{some_injective}
@@ -99,30 +99,29 @@ length_behind : {A : Type 0} (before : List A) (a : A) → length (before ++ a �
 length_behind [] a = refl
 length_behind (b ∷ before) a = ap suc (length_behind before a)
 
-good_functions : (d : Definitions) → HasTypes d → (i : ℕ) (before fs : List Function) → d.functions ≡ before ++ fs → i ≡ length before → AreGood d (function_globals i fs)
-good_functions d ok i before [] e n = tt
-good_functions d ok i before (f ∷ fs) e n =
-    let types = ok.functions f before fs e in
+good_functions : (d : Definitions) (i : ℕ) (before fs : List Function) → HaveHeaders d.table fs → d.functions ≡ before ++ fs → i ≡ length before → AreGood d (function_globals i fs)
+good_functions d i before [] ok e n = tt
+good_functions d i before (f ∷ fs) ok e n =
     let found : slice_get d.functions i ≡ Some f = ap (λ l. slice_get l i) e ∙ (ap (slice_get (before ++ f ∷ fs)) n ∙ get_behind before f fs) in
     let make : (Function → Signature) = λ f. record { takes = f.takes; gives = f.gives } in (
-      (slice_get-map make d.functions i ∙ ap (option_map make) found, types.0, types.1),
-      good_functions d ok (suc i) (before ++ f ∷ []) fs (e ∙ sym (append_assoc before (f ∷ []) fs)) (ap suc n ∙ sym (length_behind before f)),
+      (slice_get-map make d.functions i ∙ ap (option_map make) found, ok.0.0, ok.0.1),
+      good_functions d (suc i) (before ++ f ∷ []) fs ok.1 (e ∙ sym (append_assoc before (f ∷ []) fs)) (ap suc n ∙ sym (length_behind before f)),
     )
 
-good_constants : (d : Definitions) → HasTypes d → (i : ℕ) (before ks : List Constant) → d.constants ≡ before ++ ks → i ≡ length before → AreGood d (constant_globals i ks)
-good_constants d ok i before [] e n = tt
-good_constants d ok i before (k ∷ ks) e n =
+good_constants : (d : Definitions) (i : ℕ) (before ks : List Constant) → HaveTypes d.table ks → d.constants ≡ before ++ ks → i ≡ length before → AreGood d (constant_globals i ks)
+good_constants d i before [] ok e n = tt
+good_constants d i before (k ∷ ks) ok e n =
     let found : slice_get d.constants i ≡ Some k = ap (λ l. slice_get l i) e ∙ (ap (slice_get (before ++ k ∷ ks)) n ∙ get_behind before k ks) in
     let make : (Constant → Ty) = λ k. k.ty in (
-      (slice_get-map make d.constants i ∙ ap (option_map make) found, ok.constants k before ks e),
-      good_constants d ok (suc i) (before ++ k ∷ []) ks (e ∙ sym (append_assoc before (k ∷ []) ks)) (ap suc n ∙ sym (length_behind before k)),
+      (slice_get-map make d.constants i ∙ ap (option_map make) found, ok.0),
+      good_constants d (suc i) (before ++ k ∷ []) ks ok.1 (e ∙ sym (append_assoc before (k ∷ []) ks)) (ap suc n ∙ sym (length_behind before k)),
     )
 
 pub good_globals : (d : Definitions) (variables : List Variable) → HasTypes d → AreGood d (scope_of d variables).globals
 good_globals d variables ok =
     good_append d built_ins _ (tt, (tt, (tt, (tt, (tt, (tt, (tt, tt)))))))
     (good_append d (table_globals 0 0 d.table) _ (good_table d ok 0 0 d.table (omega arith) (λ i. ap (place_of d.table) (omega arith)))
-    (good_append d (function_globals 0 d.functions) (constant_globals 0 d.constants) (good_functions d ok 0 [] d.functions refl refl) (good_constants d ok 0 [] d.constants refl refl)))
+    (good_append d (function_globals 0 d.functions) (constant_globals 0 d.constants) (good_functions d 0 [] d.functions ok.functions refl refl) (good_constants d 0 [] d.constants ok.constants refl refl)))
 
 -- ---- variables
 

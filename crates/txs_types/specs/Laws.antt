@@ -1,9 +1,9 @@
 -- What holds of these definitions: each statement is proved in proofs/.
-use Rattle.std.specs.Prelude.{◌≡◌, ◌⊎◌, ℕ, List, [], ◌∷◌, ◌++◌, Option, Some, None, slice_get}
+use Rattle.std.specs.Prelude.{◌≡◌, ◌⊎◌, ℕ, List, [], Option, Some, None, slice_get}
 use Rattle.txs_values.specs.Value.{Ty, Table, Place, place_of, field_types}
 use Rattle.txs_terms.specs.Expr.{Expr}
 use Rattle.txs_terms.specs.Typed.{IsType, AreTypes, Of}
-use Rattle.txs_terms.specs.Defs.{Function, Constant, Definitions, signatures_of, AreDefined}
+use Rattle.txs_terms.specs.Defs.{HaveHeaders, HaveTypes, Definitions, signatures_of, AreDefined}
 use Rattle.txs_syntax.specs.declared.ast.Ast.{Ast}
 use Rattle.txs_values.specs.Spelled.{IsName}
 use Rattle.txs_syntax.specs.declared.ast.Name.{Name}
@@ -40,8 +40,8 @@ IsNeed table (Some t) = IsType table t
 
 -- the types in the headers of definitions, and those of the fields of their types, are of the table
 pub record HasTypes (d : Definitions) : Type 0 where
-  pub functions : (f : Function) (before after : List Function) → d.functions ≡ before ++ f ∷ after → AreTypes d.table f.takes × IsType d.table f.gives
-  pub constants : (k : Constant) (before after : List Constant) → d.constants ≡ before ++ k ∷ after → IsType d.table k.ty
+  pub functions : HaveHeaders d.table d.functions
+  pub constants : HaveTypes d.table d.constants
   pub fields : (c : ℕ) (p : Place) → place_of d.table c ≡ Some p → AreTypes d.table (field_types p.constructor.fields)
 
 -- what a tree means over definitions is well typed

@@ -1,2 +1,16 @@
-//! The types of expressions and definitions: what a tree means at a type, and what offends in it. So far definitions alone.
+//! The types of expressions and definitions: what a tree means at a type, and what offends in it.
 #![tactic(auto)]
+
+mod declarations;
+mod expression;
+mod fault;
+mod file;
+mod meaning;
+mod names;
+mod query;
+mod scope;
+mod typed;
+
+pub use fault::TypeFault;
+pub use file::type_defs;
+pub use query::type_query;

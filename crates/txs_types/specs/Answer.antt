@@ -1,0 +1,40 @@
+-- What a result of the program says of offences.
+use Rattle.std.specs.Prelude.{◌≡◌, ◌≢◌, ℕ, List, [], Option, Some, None, slice_get}
+use Rattle.txs_values.specs.Value.{Ty, Value, HasType, HaveTypes}
+use Rattle.txs_terms.specs.Expr.{Expr, put, filled}
+use Rattle.txs_terms.specs.Eval.{eval, got, bad, wrong}
+use Rattle.txs_terms.specs.Defs.{Function, Constant, Definitions, bodies}
+use Rattle.txs_types.specs.declared.fault.TypeFault.{TypeFault}
+use Rattle.txs_types.specs.declared.fault.TypeFault.TheVariants as fault
+use Rattle.txs_types.specs.Offends.{Offence, twice, unknown, arity, mismatch, empty_type, big_type}
+use Rattle.txs_types.specs.Files.{Decides}
+
+-- the offence that a fault names
+abbrev pub offence_of : TypeFault → Option Offence
+offence_of (fault.Twice at) = Some (twice at)
+offence_of (fault.Unknown at) = Some (unknown at)
+offence_of (fault.Arity at) = Some (arity at)
+offence_of (fault.Mismatch at) = Some (mismatch at)
+offence_of (fault.EmptyType at) = Some (empty_type at)
+offence_of (fault.BigType at) = Some (big_type at)
+offence_of fault.NoMemory = None
+
+-- of the offences that stand, the fault names the one that decides; want of memory may be told of any
+abbrev pub Told : TypeFault → (Offence → Type 0) → Type 0
+Told (fault.Twice at) Stands = Decides Stands (twice at)
+Told (fault.Unknown at) Stands = Decides Stands (unknown at)
+Told (fault.Arity at) Stands = Decides Stands (arity at)
+Told (fault.Mismatch at) Stands = Decides Stands (mismatch at)
+Told (fault.EmptyType at) Stands = Decides Stands (empty_type at)
+Told (fault.BigType at) Stands = Decides Stands (big_type at)
+Told fault.NoMemory Stands = Unit {0}
+
+-- evaluated with values of these types, the expression meets no value of a wrong type, and what it gives is of its type
+pub record IsSafe (d : Definitions) (types : List Ty) (e : Expr) (t : Ty) : Type 0 where
+  pub never_wrong : (values : List Value) → HaveTypes d.table values types → eval (bodies d) (put (filled values) e) ≢ bad wrong
+  pub gives : (values : List Value) → HaveTypes d.table values types → (v : Value) (n : ℕ) → eval (bodies d) (put (filled values) e) ≡ got v n → HasType d.table v t
+
+-- the bodies of functions and constants are so
+pub record AreSafe (d : Definitions) : Type 0 where
+  pub functions : (i : ℕ) (f : Function) → slice_get d.functions i ≡ Some f → IsSafe d f.takes f.body f.gives
+  pub constants : (i : ℕ) (k : Constant) → slice_get d.constants i ≡ Some k → IsSafe d [] k.body k.ty

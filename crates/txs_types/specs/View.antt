@@ -1,0 +1,55 @@
+-- Within the crate: what the program's names, scopes and results stand for.
+use Rattle.std.specs.Prelude.{◌≡◌, ℕ, List, [], ◌∷◌, map, Option, Some, None, option_map, Result, Ok, Err, slice_get}
+use Rattle.txs_values.specs.declared.ty.Ty as rust_ty
+use Rattle.txs_values.specs.Value.{Ty}
+use Rattle.txs_values.specs.View.{ty_of}
+use Rattle.txs_values.specs.TableView.{field_of}
+use Rattle.txs_terms.specs.declared.expr.Expr as rust_expr
+use Rattle.txs_terms.specs.Expr.{Expr}
+use Rattle.txs_terms.specs.View.{expr_of, exprs_of}
+use Rattle.txs_syntax.specs.declared.ast.Ast.{Ast}
+use Rattle.txs_types.specs.declared.fault.TypeFault.{TypeFault}
+use Rattle.txs_types.specs.declared.meaning.Meaning as rust_meaning
+use Rattle.txs_types.specs.declared.meaning.Meaning.TheVariants as means
+use Rattle.txs_types.specs.declared.meaning.GlobalName as rust_global
+use Rattle.txs_types.specs.declared.scope.Scope as rust_scope
+use Rattle.txs_types.specs.declared.typed.Typed as rust_typed
+use Rattle.txs_types.specs.Names.{Meaning, named_value, named_constant, named_function, named_constructor, named_test, named_selector, named_not, named_to_string, named_from_string, named_len, named_at, Global, Scope, anything}
+use Rattle.txs_types.specs.Elaborates.{Elaborates, ElaboratesEach, HasInts}
+use Rattle.txs_types.specs.Offends.{Offence, OffendsAt, Offends}
+use Rattle.txs_types.specs.Answer.{Told}
+
+abbrev pub want_of : Option rust_ty.Ty → Option Ty
+want_of t = option_map ty_of t
+
+-- what a name means, where what is called takes arguments of these types
+abbrev pub meaning_of : rust_meaning.Meaning → List Ty → Meaning
+meaning_of (means.Truth b) ts = named_value b
+meaning_of (means.Constant k t) ts = named_constant k (ty_of t)
+meaning_of (means.Function f t) ts = named_function f ts (ty_of t)
+meaning_of (means.Constructor c k) ts = named_constructor c k ts
+meaning_of (means.Test c k) ts = named_test c k
+meaning_of (means.Selector c j k t) ts = named_selector c j k (ty_of t)
+meaning_of means.Not ts = named_not
+meaning_of means.ToText ts = named_to_string
+meaning_of means.FromText ts = named_from_string
+meaning_of means.Length ts = named_len
+meaning_of means.CharAt ts = named_at
+
+abbrev pub global_of : rust_global.GlobalName → Global
+global_of g = record { name = g.name; means = meaning_of g.means (map ty_of g.takes) }
+
+abbrev pub globals_of : List rust_global.GlobalName → List Global
+globals_of gs = map global_of gs
+
+abbrev pub scope_of : rust_scope.Scope → Scope
+scope_of s = record { types = s.types; globals = globals_of s.globals.list; slots = map field_of s.slots; locals = map field_of s.locals }
+
+-- the tree, whose place is given, means this expression, or this fault decides
+abbrev pub JudgesAt : ℕ → Scope → Option Ty → Ast → Result rust_typed.Typed TypeFault → Type 0
+JudgesAt at scope want a (Ok t) = Elaborates scope want a (expr_of t.expr) (ty_of t.ty) × HasInts a
+JudgesAt at scope want a (Err f) = Told f (OffendsAt at scope want a)
+
+abbrev pub Judges : Scope → Option Ty → Ast → Result rust_typed.Typed TypeFault → Type 0
+Judges scope want a (Ok t) = Elaborates scope want a (expr_of t.expr) (ty_of t.ty) × HasInts a
+Judges scope want a (Err f) = Told f (Offends scope want a)
