@@ -4,6 +4,7 @@ use Rattle.std.proofs.lemmas.Bool.Decides.{eqb_tells}
 use Rattle.std.proofs.lemmas.Bool.{cases_lt}
 use Rattle.txs_values.specs.Value.{Ty, whole, truth, string, named, num, text, cons, no_value}
 use Rattle.txs_terms.specs.Expr.{Expr, val, one, two, negate, choose, let_in, apply, build, equal, both, either, is_made_by, select, negation, to_text, from_text, len, char_at, plus, minus, times, divide, remainder, concat, differ, less_than, at_most, more_than, at_least}
+use Rattle.txs_terms.specs.View.{gathered}
 use Rattle.txs_syntax.specs.declared.ast.Op.{Op}
 use Rattle.txs_syntax.specs.declared.ast.Op.TheVariants as op
 use Rattle.txs_syntax.specs.declared.ast.Name.{Name}
@@ -13,7 +14,7 @@ use Rattle.txs_syntax.specs.declared.ast.Ast.TheOpen.{Ast-F}
 use Rattle.txs_syntax.specs.declared.ast.Ast.TheFolds.{ind-Ast}
 use Rattle.txs_types.specs.Names.{Scope, Meaning, named_value, named_constant, named_function, named_constructor, named_test, named_selector, named_not, named_to_string, named_from_string, named_len, named_at, Fits, IsUnknown, inside, takes, called, global_of, meaning}
 use Rattle.txs_types.specs.Laws.{ElaboratesOrOffends}
-use Rattle.txs_types.specs.Elaborates.{Suits, listed, right_first, Operator, or_operator, and_operator, less_operator, at_most_operator, more_operator, at_least_operator, join_operator, plus_operator, minus_operator, times_operator, divide_operator, remainder_operator, Comparison, equal_comparison, different_comparison, Makes, function_made, value_made, constructor_made, test_made, selector_made, not_made, to_string_made, from_string_made, len_made, at_made, Elaborates, number, quoted, name, call, negated, operated, compared, compared_back, grouped, chosen, chosen_freely, bound, ElaboratesEach, nothing, one_more}
+use Rattle.txs_types.specs.Elaborates.{Suits, right_first, Operator, or_operator, and_operator, less_operator, at_most_operator, more_operator, at_least_operator, join_operator, plus_operator, minus_operator, times_operator, divide_operator, remainder_operator, Comparison, equal_comparison, different_comparison, Makes, function_made, value_made, constructor_made, test_made, selector_made, not_made, to_string_made, from_string_made, len_made, at_made, Elaborates, number, quoted, name, call, negated, operated, compared, compared_back, grouped, chosen, chosen_freely, bound, ElaboratesEach, nothing, one_more}
 use Rattle.txs_types.specs.Offends.{Offence, unknown, arity, mismatch, IsWhole, whole_step, first, OffendsAt, Offends, Shows, stands, as_typed, unknown_name, unknown_call, wrong_number, other_type, from_nowhere, argument, negated as side_negated, left, right, earlier_side, later_side, grouped as inside_grouped, condition, then_branch, else_branch, else_like_then, bound_value, body}
 use Rattle.txs_types.proofs.Trees.{fold_number, fold_text, fold_name, fold_call, fold_negate, fold_binary}
 use Rattle.txs_types.proofs.Unique.{some_injective}
@@ -134,7 +135,7 @@ with_one m es make t made h =
 makes : (m : Meaning) (needs : List (Option Ty)) (es : List Expr) → takes m ≡ Some needs → length es ≡ length needs → (m ≡ named_from_string) ⊎ MadeAnywhere m es
 makes (named_value b) needs es p h = absurd (none≢some p)
 makes (named_constant k t) needs es p h = absurd (none≢some p)
-makes (named_function f ts t) needs es p h = inr (apply f (listed es), t, λ want. function_made want f ts t es)
+makes (named_function f ts t) needs es p h = inr (apply f (gathered es), t, λ want. function_made want f ts t es)
 makes (named_constructor c k []) needs es p h =
     inr (
       val (cons c no_value),
@@ -142,7 +143,7 @@ makes (named_constructor c k []) needs es p h =
       λ want. subst (λ l. Makes want (named_constructor c k []) l (val (cons c no_value)) (named k))
           (no_expr es (h ∙ ap length (sym (some_injective p)))) (value_made want c k),
     )
-makes (named_constructor c k (t ∷ ts)) needs es p h = inr (build c (listed es), named k, λ want. constructor_made want c k t ts es)
+makes (named_constructor c k (t ∷ ts)) needs es p h = inr (build c (gathered es), named k, λ want. constructor_made want c k t ts es)
 makes (named_test c k) needs es p h = inr (with_one (named_test c k) es (one (is_made_by c)) truth (λ want e. test_made want c k e) (h ∙ ap length (sym (some_injective p))))
 makes (named_selector c j k t) needs es p h =
     inr (with_one (named_selector c j k t) es (one (select c j)) t (λ want e. selector_made want c j k t e) (h ∙ ap length (sym (some_injective p))))

@@ -11,3 +11,12 @@ mod Tables
 mod Distinct
 mod Defined
 mod Accepted
+pub mod Lookups
+pub mod Tests
+pub mod Exprs
+pub mod Calls
+pub mod ToldLaws
+pub mod Inside
+pub mod Finish
+pub mod CallNodes
+pub mod Sides

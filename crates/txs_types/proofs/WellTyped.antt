@@ -3,6 +3,7 @@ use Rattle.std.proofs.Common.{◌≡◌, ℕ, Bool, true, ◌&&◌, cond, ap, sy
 use Rattle.std.proofs.lemmas.Bool.{and_parts}
 use Rattle.txs_values.specs.Value.{Ty, whole, truth, string, named, num, text, cons, no_value, Constructor, Table, place_of, field_types, fields_in, has_type, has_fields}
 use Rattle.txs_terms.specs.Expr.{Expr, val, slot, local, one, negate}
+use Rattle.txs_terms.specs.View.{gathered}
 use Rattle.txs_terms.specs.Typed.{IsType, AreTypes, negate_of, negation_of, to_text_of, from_text_of, len_of, made_by_of, select_of, plus_of, minus_of, times_of, divide_of, remainder_of, concat_of, differ_of, less_of, at_most_of, more_of, at_least_of, char_of, Of, val_of, slot_of, local_of, constant_of, one_of, two_of, equal_of, both_of, either_of, choose_of, apply_of, build_of, let_of, Ofs, none_of, more_of'}
 use Rattle.txs_terms.specs.Defs.{Definitions, signatures_of}
 use Rattle.txs_syntax.specs.declared.ast.Op.{Op}
@@ -12,7 +13,7 @@ use Rattle.txs_syntax.specs.declared.ast.Ast.TheVariants as tree
 use Rattle.txs_syntax.specs.declared.ast.Ast.TheFolds.{fold-Ast}
 use Rattle.txs_types.specs.Names.{Variable, Scope, Meaning, named_value, named_constant, named_function, named_constructor, named_test, named_selector, named_not, named_to_string, named_from_string, named_len, named_at, IsUnknown, inside, last_of, global_of, alone, global_alone, slot_or_global, needed, takes, called, meaning}
 use Rattle.txs_types.specs.Laws.{IsNeed, ElaboratedIsTyped}
-use Rattle.txs_types.specs.Elaborates.{Suits, listed, Operator, or_operator, and_operator, less_operator, at_most_operator, more_operator, at_least_operator, join_operator, plus_operator, minus_operator, times_operator, divide_operator, remainder_operator, Comparison, equal_comparison, different_comparison, Makes, function_made, value_made, constructor_made, test_made, selector_made, not_made, to_string_made, from_string_made, len_made, at_made, Elaborates, number, quoted, name, call, negated, operated, compared, compared_back, grouped, chosen, chosen_freely, bound, ElaboratesEach, nothing, one_more, all_true, ints_step, HasInts}
+use Rattle.txs_types.specs.Elaborates.{Suits, Operator, or_operator, and_operator, less_operator, at_most_operator, more_operator, at_least_operator, join_operator, plus_operator, minus_operator, times_operator, divide_operator, remainder_operator, Comparison, equal_comparison, different_comparison, Makes, function_made, value_made, constructor_made, test_made, selector_made, not_made, to_string_made, from_string_made, len_made, at_made, Elaborates, number, quoted, name, call, negated, operated, compared, compared_back, grouped, chosen, chosen_freely, bound, ElaboratesEach, nothing, one_more, all_true, ints_step, HasInts}
 use Rattle.txs_types.proofs.Trees.{fold_number, fold_call, fold_negate, fold_binary, fold_group, fold_if, fold_let}
 use Rattle.txs_types.proofs.Globals.{Good, AreGood, good_found, good_globals, type_at, variable_at}
 
@@ -153,7 +154,7 @@ takes_types d named_len g = (tt, tt)
 takes_types d named_at g = (tt, (tt, tt))
 
 each_of_types : (d : Definitions) (scope : Scope) (ts : List Ty) (es : List Expr) → EachTyped d scope (needed ts) es
-    → Ofs d.table (signatures_of d) (field_types scope.slots) (field_types scope.locals) (listed es) ts
+    → Ofs d.table (signatures_of d) (field_types scope.slots) (field_types scope.locals) (gathered es) ts
 each_of_types d scope [] [] p = none_of
 each_of_types d scope [] (e ∷ es) p = absurd p
 each_of_types d scope (t ∷ ts) [] p = absurd p
@@ -169,7 +170,7 @@ made_typed : (d : Definitions) (scope : Scope) {want : Option Ty} {m : Meaning} 
 made_typed d scope (function_made want f ts t es) g need p = (apply_of g.0 (each_of_types d scope ts es p), g.2)
 made_typed d scope (value_made want c k) g need p = (val_of (empty_value d.table c k g.0 g.1 g.2), g.4)
 made_typed d scope (constructor_made want c k t ts es) g need p =
-    (build_of g.1 (subst (Ofs d.table (signatures_of d) (field_types scope.slots) (field_types scope.locals) (listed es)) (sym g.2) (each_of_types d scope (t ∷ ts) es p)), g.4)
+    (build_of g.1 (subst (Ofs d.table (signatures_of d) (field_types scope.slots) (field_types scope.locals) (gathered es)) (sym g.2) (each_of_types d scope (t ∷ ts) es p)), g.4)
 made_typed d scope (test_made want c k e) g need p = (one_of (made_by_of c k g.0 g.1) (at_need d scope e (named k) p.0.0 p.0.1), tt)
 made_typed d scope (selector_made want c j k t e) g need p = (one_of (select_of c j k t g.0 g.1 g.2) (at_need d scope e (named k) p.0.0 p.0.1), g.3)
 made_typed d scope (not_made want e) g need p = (one_of negation_of (at_need d scope e truth p.0.0 p.0.1), tt)

@@ -1,7 +1,8 @@
 -- Which expression, of which type, a tree means where it is needed at a type, or at none.
 use Rattle.std.specs.Prelude.{◌≡◌, ℕ, ℤ, Bool, true, false, not, ◌&&◌, bytes_eq, codes, List, [], ◌∷◌, Option, Some, None}
 use Rattle.txs_values.specs.Value.{Ty, whole, truth, string, named, num, text, cons, no_value, fits}
-use Rattle.txs_terms.specs.Expr.{Expr, Exprs, none, more, val, one, two, equal, both, either, choose, apply, build, let_in, negate, negation, to_text, from_text, len, is_made_by, select, plus, minus, times, divide, remainder, concat, differ, less_than, at_most, more_than, at_least, char_at}
+use Rattle.txs_terms.specs.Expr.{Expr, val, one, two, equal, both, either, choose, apply, build, let_in, negate, negation, to_text, from_text, len, is_made_by, select, plus, minus, times, divide, remainder, concat, differ, less_than, at_most, more_than, at_least, char_at}
+use Rattle.txs_terms.specs.View.{gathered}
 use Rattle.txs_syntax.specs.declared.ast.Name.{Name}
 use Rattle.txs_syntax.specs.declared.ast.Op.{Op}
 use Rattle.txs_syntax.specs.declared.ast.Op.TheVariants as op
@@ -56,16 +57,12 @@ from_outside = fold-Ast Bool outside_step
 abbrev pub right_first : Ast → Ast → Bool
 right_first a b = from_outside a && not (from_outside b)
 
-abbrev pub listed : List Expr → Exprs
-listed [] = none
-listed (e ∷ es) = more e (listed es)
-
 -- what is called, with these arguments, where this type or none is needed, is this expression of this type
 pub data Makes : Option Ty → Meaning → List Expr → Expr → Ty → Type 0 where
-  function_made : (want : Option Ty) (f : ℕ) (ts : List Ty) (t : Ty) (es : List Expr) → Makes want (named_function f ts t) es (apply f (listed es)) t
+  function_made : (want : Option Ty) (f : ℕ) (ts : List Ty) (t : Ty) (es : List Expr) → Makes want (named_function f ts t) es (apply f (gathered es)) t
   value_made : (want : Option Ty) (c k : ℕ) → Makes want (named_constructor c k []) [] (val (cons c no_value)) (named k)
   constructor_made : (want : Option Ty) (c k : ℕ) (t : Ty) (ts : List Ty) (es : List Expr)
-      → Makes want (named_constructor c k (t ∷ ts)) es (build c (listed es)) (named k)
+      → Makes want (named_constructor c k (t ∷ ts)) es (build c (gathered es)) (named k)
   test_made : (want : Option Ty) (c k : ℕ) (e : Expr) → Makes want (named_test c k) (e ∷ []) (one (is_made_by c) e) truth
   selector_made : (want : Option Ty) (c j k : ℕ) (t : Ty) (e : Expr) → Makes want (named_selector c j k t) (e ∷ []) (one (select c j) e) t
   not_made : (want : Option Ty) (e : Expr) → Makes want named_not (e ∷ []) (one negation e) truth

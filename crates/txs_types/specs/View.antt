@@ -13,6 +13,7 @@ use Rattle.txs_types.specs.declared.meaning.Meaning as rust_meaning
 use Rattle.txs_types.specs.declared.meaning.Meaning.TheVariants as means
 use Rattle.txs_types.specs.declared.meaning.GlobalName as rust_global
 use Rattle.txs_types.specs.declared.scope.Scope as rust_scope
+use Rattle.txs_types.specs.declared.scope.Called as rust_called
 use Rattle.txs_types.specs.declared.typed.Typed as rust_typed
 use Rattle.txs_types.specs.Names.{Meaning, named_value, named_constant, named_function, named_constructor, named_test, named_selector, named_not, named_to_string, named_from_string, named_len, named_at, Global, Scope, anything}
 use Rattle.txs_types.specs.Elaborates.{Elaborates, ElaboratesEach, HasInts}
@@ -53,3 +54,15 @@ JudgesAt at scope want a (Err f) = Told f (OffendsAt at scope want a)
 abbrev pub Judges : Scope → Option Ty → Ast → Result rust_typed.Typed TypeFault → Type 0
 Judges scope want a (Ok t) = Elaborates scope want a (expr_of t.expr) (ty_of t.ty) × HasInts a
 Judges scope want a (Err f) = Told f (Offends scope want a)
+
+-- the expression and its type
+abbrev pub typed_of : rust_typed.Typed → Expr × Ty
+typed_of t = (expr_of t.expr, ty_of t.ty)
+
+-- the types at which arguments are needed
+abbrev pub wants_of : List (Option rust_ty.Ty) → List (Option Ty)
+wants_of ts = map want_of ts
+
+-- what is called, and the arguments that it takes
+abbrev pub called_of : rust_called.Called → Meaning × List (Option Ty)
+called_of c = (meaning_of c.means (map ty_of c.takes), wants_of c.needs)

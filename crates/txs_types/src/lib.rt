@@ -1,10 +1,13 @@
 //! The types of expressions and definitions: what a tree means at a type, and what offends in it.
 #![tactic(auto)]
 
+mod call;
 mod declarations;
 mod expression;
 mod fault;
 mod file;
+mod leaf;
+mod made;
 mod meaning;
 mod names;
 mod query;

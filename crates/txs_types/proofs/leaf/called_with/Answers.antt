@@ -1,0 +1,15 @@
+use Rattle.std.proofs.Common.{◌∙◌, ap, sym, subst, Some, None, Ok, map}
+use Rattle.txs_values.specs.View.{ty_of}
+use Rattle.txs_terms.specs.View.{exprs_of}
+use Rattle.txs_types.specs.View.{scope_of, want_of, called_of}
+use Rattle.txs_types.specs.Parts.{CallsWith}
+use Rattle.txs_types.proofs.CallNodes.{calls_whole}
+use Rattle.txs_types.proofs.Sides.{tells_behind}
+use Rattle.txs_types.proofs.leaf.called_with.Goals as goal
+
+pub returns-in-Some : goal.returns-in-Some
+returns-in-Some c =
+    let ts = map ty_of c.args.called.now.takes in
+    subst (λ f. CallsWith (scope_of c.args.scope.now) (want_of c.args.want) c.args.at ((called_of c.args.called.now).0) f c.whole.result) (sym c.in-Ok.is)
+    (calls_whole (scope_of c.args.scope.now) (want_of c.args.want) c.args.at ((called_of c.args.called.now).0) c.in-Ok.args (ty_of c.in-Some.ty) c.applied-made.result c.whole.result
+    (sym (c.call_type.ensures ts) ∙ ap want_of c.in-Some.is) c.applied-made.ensures c.whole.ensures)

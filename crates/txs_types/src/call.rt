@@ -1,0 +1,140 @@
+ghost use Rattle.std.specs.Prelude.{◌≡◌, ℕ, List, [], ◌∷◌, Option, Some, IfOk, MatchResult, length};
+ghost use Rattle.txs_values.specs.Value.{Ty as TheType, named};
+ghost use Rattle.txs_values.specs.View.{ty_of};
+ghost use Rattle.txs_terms.specs.Expr as of;
+ghost use Rattle.txs_terms.specs.Expr.{Expr as TheExpr};
+ghost use Rattle.txs_terms.specs.View.{expr_of, exprs_of, unary_of};
+ghost use Rattle.txs_types.specs.declared.fault.TypeFault.TheVariants as fault;
+ghost use Rattle.txs_types.specs.Names as names;
+ghost use Rattle.txs_types.specs.Elaborates.{Makes};
+ghost use Rattle.txs_types.specs.View.{scope_of, want_of, wants_of, meaning_of, called_of};
+ghost use Rattle.txs_types.specs.Parts as parts;
+ghost use Rattle.txs_types.specs.Parts.{Applies, Gathers};
+
+use crate::fault::{TypeFault, lesser};
+use crate::meaning::Meaning;
+use crate::scope::{Called, Scope};
+use crate::typed::Typed;
+use sqlite_items::{Boxed, Items};
+use std::alloc::Global;
+use txs_syntax::Ast;
+use txs_terms::{Binary, Expr, Exprs, Unary};
+use txs_values::{NoMemory, Ty, Value};
+
+/// The type of a call, where this one or none is needed.
+pub fn call_type(means: Meaning, want: Option<Ty>) -> Option<Ty>
+    ensures { (ts : List TheType) → want_of result ≡ parts.call_type (meaning_of means ts) (want_of want) }
+{
+    match means {
+        Meaning::Truth(_) => None,
+        Meaning::Constant { .. } => None,
+        Meaning::Function { gives, .. } => Some(gives),
+        Meaning::Constructor { of, .. } => Some(Ty::Named(of)),
+        Meaning::Test { .. } => Some(Ty::Bool),
+        Meaning::Selector { ty, .. } => Some(ty),
+        Meaning::Not => Some(Ty::Bool),
+        Meaning::ToText => Some(Ty::Text),
+        Meaning::FromText => want,
+        Meaning::Length => Some(Ty::Int),
+        Meaning::CharAt => Some(Ty::Text),
+    }
+}
+
+/// An operator on the one argument.
+fn one(alloc: Global, operator: Unary, args: Exprs) -> Result<Expr, TypeFault>
+    requires { length args ≡ 1 }
+    ensures { MatchResult result (λ e. (a : TheExpr) × (exprs_of args ≡ a ∷ []) × (expr_of e ≡ of.one (unary_of operator) a)) (λ f. f ≡ fault.NoMemory) }
+{
+    let mut args = args;
+    match args.pop() {
+        Some(a) => Ok(Expr::One(operator, Boxed::new(alloc, a)?)),
+        None => unreachable!(),
+    }
+}
+
+/// The character of a text at a place.
+fn char_at(alloc: Global, args: Exprs) -> Result<Expr, TypeFault>
+    requires { length args ≡ 2 }
+    ensures { MatchResult result (λ e. (a : TheExpr) × (b : TheExpr) × (exprs_of args ≡ a ∷ b ∷ []) × (expr_of e ≡ of.two of.char_at a b))
+        (λ f. f ≡ fault.NoMemory) }
+{
+    let mut args = args;
+    match (args.pop(), args.pop()) {
+        (Some(b), Some(a)) => {
+            let a = Boxed::new(alloc, a)?;
+            Ok(Expr::Two(Binary::CharAt, a, Boxed::new(alloc, b)?))
+        }
+        _ => unreachable!(),
+    }
+}
+
+/// A constructor of so many fields.
+fn constructed(alloc: Global, number: u32, args: Exprs) -> Expr
+    ensures { (k : ℕ) (ts : List TheType) (want : Option TheType) → length ts ≡ length args
+        → Makes want (names.named_constructor number k ts) (exprs_of args) (expr_of result) (named k) }
+{
+    if args.is_empty() {
+        Expr::Value(Value::Cons {
+            id: number,
+            fields: Items::new(alloc),
+        })
+    } else {
+        Expr::Build(number, args)
+    }
+}
+
+/// The expression of a call of this type with these arguments.
+pub fn applied(alloc: Global, called: &Called, ty: Ty, args: Exprs) -> Result<Expr, TypeFault>
+    requires takes { let c = called_of called.now in names.takes c.0 ≡ Some c.1 }
+    requires many { length args ≡ length called.now.needs }
+    ensures { MatchResult result (λ e. Applies ((called_of called.now).0) (ty_of ty) (exprs_of args) (expr_of e)) (λ f. f ≡ fault.NoMemory) }
+{
+    match called.means {
+        Meaning::Truth(_) | Meaning::Constant { .. } => unreachable!(),
+        Meaning::Function { number, .. } => Ok(Expr::Call(number, args)),
+        Meaning::Constructor { number, .. } => Ok(constructed(alloc, number, args)),
+        Meaning::Test { constructor, .. } => one(alloc, Unary::IsMadeBy(constructor), args),
+        Meaning::Selector {
+            constructor, field, ..
+        } => one(alloc, Unary::Select { constructor, field }, args),
+        Meaning::Not => one(alloc, Unary::Not, args),
+        Meaning::ToText => one(alloc, Unary::ToText, args),
+        Meaning::FromText => one(alloc, Unary::FromText(ty), args),
+        Meaning::Length => one(alloc, Unary::Length, args),
+        Meaning::CharAt => char_at(alloc, args),
+    }
+}
+
+/// The expressions so far and one more, or of the faults the one that decides.
+pub fn gathered(
+    so_far: Result<Exprs, TypeFault>,
+    found: Result<Typed, TypeFault>,
+) -> Result<Exprs, TypeFault>
+    ensures { Gathers so_far found result }
+{
+    match (so_far, found) {
+        (Ok(exprs), Ok(typed)) => {
+            let mut exprs = exprs;
+            exprs.push(typed.expr)?;
+            Ok(exprs)
+        }
+        (Ok(_), Err(fault)) => Err(fault),
+        (Err(fault), Ok(_)) => Err(fault),
+        (Err(a), Err(b)) => Err(lesser(a, b)),
+    }
+}
+
+/// For each argument, that it is needed at a type that fits everywhere.
+pub fn stray_needs(
+    alloc: Global,
+    scope: &Scope,
+    args: &[Ast],
+) -> Result<Items<Option<Ty>>, NoMemory>
+    ensures { IfOk result (λ ts. wants_of ts ≡ parts.stray_needs (scope_of scope.now) args.now) }
+{
+    let mut needs = Items::new(alloc);
+    for _arg in args {
+        needs.push(Some(Ty::Named(scope.types)))?;
+    }
+    Ok(needs)
+}

@@ -1,0 +1,87 @@
+ghost use Rattle.std.specs.Prelude.{◌≡◌, ℕ, Some, IfOk, length};
+ghost use Rattle.txs_values.specs.Value.{num};
+ghost use Rattle.txs_terms.specs.Expr as of;
+ghost use Rattle.txs_terms.specs.View.{expr_of};
+ghost use Rattle.txs_syntax.specs.declared.ast.Ast.TheVariants as tree;
+ghost use Rattle.txs_types.specs.Names as names;
+ghost use Rattle.txs_types.specs.View.{scope_of, want_of, called_of, JudgesAt};
+ghost use Rattle.txs_types.specs.Parts.{CallsWith};
+
+use crate::call::{applied, call_type};
+use crate::fault::TypeFault;
+use crate::made::whole;
+use crate::scope::{Called, Scope};
+use crate::typed::Typed;
+use std::alloc::Global;
+use txs_syntax::Name;
+use txs_terms::{Expr, Exprs};
+use txs_values::{Text, Ty, Value};
+
+fn int(value: i128) -> Expr
+    ensures { expr_of result ≡ of.val (num value) }
+{
+    Expr::Value(Value::Int(value))
+}
+
+pub fn number(scope: &Scope, want: Option<Ty>, at: usize, value: i128) -> Result<Typed, TypeFault>
+    ensures { (place : ℕ) → JudgesAt at (scope_of scope.now) (want_of want) (tree.Number place value) result }
+{
+    whole(scope, want, at, Ok(int(value)), Ty::Int)
+}
+
+pub fn quoted(
+    alloc: Global,
+    scope: &Scope,
+    want: Option<Ty>,
+    at: usize,
+    text: &Text,
+) -> Result<Typed, TypeFault>
+    ensures { (place : ℕ) → JudgesAt at (scope_of scope.now) (want_of want) (tree.Text place text.now) result }
+{
+    match text.copy(alloc) {
+        Ok(text) => whole(scope, want, at, Ok(Expr::Value(Value::Text(text))), Ty::Text),
+        Err(_) => Err(TypeFault::NoMemory),
+    }
+}
+
+pub fn named(
+    alloc: Global,
+    scope: &Scope,
+    want: Option<Ty>,
+    at: usize,
+    name: &Name,
+) -> Result<Typed, TypeFault>
+    ensures { JudgesAt at (scope_of scope.now) (want_of want) (tree.Name name.now) result }
+{
+    match scope.meaning(alloc, &name.text) {
+        Ok(Some(typed)) => whole(scope, want, at, Ok(typed.expr), typed.ty),
+        Ok(None) => Err(TypeFault::Unknown { at: name.at }),
+        Err(_) => Err(TypeFault::NoMemory),
+    }
+}
+
+/// A call with these arguments, as many as it takes.
+pub fn called_with(
+    alloc: Global,
+    scope: &Scope,
+    want: Option<Ty>,
+    at: usize,
+    called: &Called,
+    found: Result<Exprs, TypeFault>,
+) -> Result<Typed, TypeFault>
+    requires takes { let c = called_of called.now in names.takes c.0 ≡ Some c.1 }
+    requires many { IfOk found (λ es. length es ≡ length called.now.needs) }
+    ensures { CallsWith (scope_of scope.now) (want_of want) at ((called_of called.now).0) found result }
+{
+    match found {
+        Ok(args) => match call_type(called.means, want) {
+            Some(ty) => {
+                let made = applied(alloc, called, ty, args);
+                whole(scope, want, at, made, ty)
+            }
+            None => Err(TypeFault::Mismatch { at }),
+        },
+        Err(fault) => Err(fault),
+    }
+}
+
