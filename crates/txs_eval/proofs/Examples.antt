@@ -115,21 +115,21 @@ Known p = AreTypes queues (field_types p.constructor.fields)
 
 queue_known : (c : ℕ) (p : Place) → place_of queues c ≡ Some p → Known p
 queue_known zero p e = subst Known (some_same e) tt
-queue_known (suc zero) p e = subst Known (some_same e) (tt, omega arith, tt)
+queue_known (suc zero) p e = subst Known (some_same e) (tt, (omega arith, tt))
 queue_known (suc (suc c)) p e = absurd (none_some e)
 
 abbrev Named : Place → Type 0
 Named p = IsName p.constructor.name
 
 queue_names : (c : ℕ) (p : Place) → place_of queues c ≡ Some p → Named p
-queue_names zero p e = subst Named (some_same e) (refl, refl, refl, tt)
-queue_names (suc zero) p e = subst Named (some_same e) (refl, refl, refl, refl, tt)
+queue_names zero p e = subst Named (some_same e) (refl, (refl, (refl, tt)))
+queue_names (suc zero) p e = subst Named (some_same e) (refl, (refl, (refl, (refl, tt))))
 queue_names (suc (suc c)) p e = absurd (none_some e)
 
 nil_or_cell : (p q : Place) → Some (record { ty = 0; constructor = nil }) ≡ Some p → Some (record { ty = 0; constructor = cell }) ≡ Some q
     → p.constructor.name ≡ q.constructor.name → ⊥
 nil_or_cell p q a b e =
-    let n : codes "Nil" ≡ codes "Cell" = subst (λ r. p.constructor.name ≡ r.constructor.name) (sym (some_same b)) (subst (λ r. r.constructor.name ≡ q.constructor.name) (sym (some_same a)) e) in cc
+    let n : codes "Nil" ≡ codes "Cell" = subst (λ (r : Place). codes "Nil" ≡ r.constructor.name) (sym (some_same b)) (subst (λ (r : Place). r.constructor.name ≡ q.constructor.name) (sym (some_same a)) e) in cc
 
 queue_distinct : (c d : ℕ) (p q : Place) → place_of queues c ≡ Some p → place_of queues d ≡ Some q → p.constructor.name ≡ q.constructor.name → c ≡ d
 queue_distinct zero zero p q a b e = refl

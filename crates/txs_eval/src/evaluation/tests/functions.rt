@@ -36,8 +36,11 @@ fn recursive(alloc: Global) -> Result<Defs, NoMemory>
     ensures { IfOk result (λ d. slice_get (signatures_of (definitions_of d)).functions 0 ≡ Some (record { takes = whole ∷ []; gives = whole })) }
 {
     let mut functions = Items::new(alloc);
-    functions.push(counting(alloc)?)?;
-    Ok(Defs::new(TypeTable::new(alloc), functions, Items::new(alloc)))
+    let function = counting(alloc)?;
+    functions.push(function)?;
+    let table = TypeTable::new(alloc);
+    let constants = Items::new(alloc);
+    Ok(Defs::new(table, functions, constants))
 }
 
 fn counted_from(alloc: Global, n: i128) -> Result<Expr, NoMemory>
@@ -46,19 +49,44 @@ fn counted_from(alloc: Global, n: i128) -> Result<Expr, NoMemory>
     Ok(Expr::Call(0, lone(alloc, int(n))?))
 }
 
+/// What f(n) is.
+fn counted_down(alloc: Global, n: i128) -> Result<Text, NoMemory> {
+    let defs = recursive(alloc)?;
+    let expr = counted_from(alloc, n)?;
+    defs.defined();
+    told(alloc, &defs, &expr)
+}
+
 #[test]
 fn calls(rt: HostRuntime) -> Result<(), Fail> {
     let alloc = rt.alloc();
-    let defs = recursive(alloc)?;
-    defs.defined();
     for (n, wanted) in [(0, "0"), (498, "0"), (499, "High")] {
-        let expr = counted_from(alloc, n)?;
-        assert_eq!(rt; told(alloc, &defs, &expr)?.as_str(), wanted, "{n}");
+        assert_eq!(rt; counted_down(alloc, n)?.as_str(), wanted, "{n}");
     }
     Ok(())
 }
 
-/// The function dbl (s, n) ::= IF n == 0 THEN s ELSE dbl(s ++ s, n - 1) FI.
+/// dbl(s ++ s, n - 1).
+fn doubled_again(alloc: Global) -> Result<Expr, NoMemory>
+    ensures { IfOk result (λ e. expr_of e ≡
+        of.apply 0 (of.more (of.two of.concat (of.slot 0) (of.slot 0)) (of.more (of.two of.minus (of.slot 1) (of.val (num (pos 1)))) of.none))) }
+{
+    let twice = two(alloc, Binary::Concat, Expr::Slot(0), Expr::Slot(0))?;
+    let fewer = two(alloc, Binary::Minus, Expr::Slot(1), int(1))?;
+    Ok(Expr::Call(0, pair(alloc, twice, fewer)?))
+}
+
+/// IF n == 0 THEN s ELSE dbl(s ++ s, n - 1) FI.
+fn doubled(alloc: Global) -> Result<Expr, NoMemory>
+    ensures { IfOk result (λ e. expr_of e ≡
+        of.choose (of.equal (of.slot 1) (of.val (num (pos 0)))) (of.slot 0)
+        (of.apply 0 (of.more (of.two of.concat (of.slot 0) (of.slot 0)) (of.more (of.two of.minus (of.slot 1) (of.val (num (pos 1)))) of.none)))) }
+{
+    let end = equal(alloc, Expr::Slot(1), int(0))?;
+    choice(alloc, end, Expr::Slot(0), doubled_again(alloc)?)
+}
+
+/// The function dbl (s, n), which puts a text behind itself n times.
 fn doubling(alloc: Global) -> Result<FunctionDef, NoMemory>
     ensures { IfOk result (λ f. function_of f ≡ record {
       name = f.name;
@@ -69,14 +97,10 @@ fn doubling(alloc: Global) -> Result<FunctionDef, NoMemory>
           (of.apply 0 (of.more (of.two of.concat (of.slot 0) (of.slot 0)) (of.more (of.two of.minus (of.slot 1) (of.val (num (pos 1)))) of.none)));
     }) }
 {
-    let end = equal(alloc, Expr::Slot(1), int(0))?;
-    let twice = two(alloc, Binary::Concat, Expr::Slot(0), Expr::Slot(0))?;
-    let fewer = two(alloc, Binary::Minus, Expr::Slot(1), int(1))?;
-    let again = Expr::Call(0, pair(alloc, twice, fewer)?);
     let mut takes = Items::new(alloc);
     takes.push(Ty::Text)?;
     takes.push(Ty::Int)?;
-    let body = choice(alloc, end, Expr::Slot(0), again)?;
+    let body = doubled(alloc)?;
     let name = Text::from_str(alloc, "dbl")?;
     Ok(FunctionDef {
         name,
@@ -88,8 +112,11 @@ fn doubling(alloc: Global) -> Result<FunctionDef, NoMemory>
 
 fn growing(alloc: Global) -> Result<Defs, NoMemory> {
     let mut functions = Items::new(alloc);
-    functions.push(doubling(alloc)?)?;
-    Ok(Defs::new(TypeTable::new(alloc), functions, Items::new(alloc)))
+    let function = doubling(alloc)?;
+    functions.push(function)?;
+    let table = TypeTable::new(alloc);
+    let constants = Items::new(alloc);
+    Ok(Defs::new(table, functions, constants))
 }
 
 #[test]

@@ -1,12 +1,12 @@
 ghost use Rattle.std.specs.Prelude.{◌≡◌, [], ◌∷◌, codes, IfOk};
 ghost use Rattle.txs_values.specs.Value.{whole, named, cons, no_value};
 ghost use Rattle.txs_values.specs.View.{ty_of};
-ghost use Rattle.txs_values.specs.TableView.{cons_of, field_of};
+ghost use Rattle.txs_values.specs.TableView.{cons_of, conses_of, field_of};
 ghost use Rattle.txs_terms.specs.Expr as of;
 ghost use Rattle.txs_terms.specs.View.{expr_of, function_of};
 
 use super::*;
-use txs_values::{ConsDef, FieldDef, TypeDef};
+use txs_values::{ConsDef, ConsDefs, FieldDef, TypeDef};
 
 /// A queue of numbers.
 const QUEUE: Ty = Ty::Named(0);
@@ -45,6 +45,18 @@ fn cell(alloc: Global) -> Result<ConsDef, NoMemory>
     })
 }
 
+/// Nil and Cell.
+fn constructors(alloc: Global) -> Result<ConsDefs, NoMemory>
+    ensures { IfOk result (λ cs. conses_of cs ≡
+        record { name = codes "Nil"; fields = [] }
+        ∷ record { name = codes "Cell"; fields = record { name = codes "hd"; ty = whole } ∷ record { name = codes "tl"; ty = named 0 } ∷ [] } ∷ []) }
+{
+    let mut cons = Items::new(alloc);
+    cons.push(empty(alloc)?)?;
+    cons.push(cell(alloc)?)?;
+    Ok(cons)
+}
+
 /// TYPEDEF Q ::= Nil | Cell { hd :: Int; tl :: Q } ENDDEF.
 fn types(alloc: Global) -> Result<TypeTable, NoMemory>
     ensures { IfOk result (λ t. t ≡ record {
@@ -54,9 +66,7 @@ fn types(alloc: Global) -> Result<TypeTable, NoMemory>
           ∷ record { name = codes "Cell"; fields = record { name = codes "hd"; ty = whole } ∷ record { name = codes "tl"; ty = named 0 } ∷ [] } ∷ [];
     } ∷ []) }
 {
-    let mut cons = Items::new(alloc);
-    cons.push(empty(alloc)?)?;
-    cons.push(cell(alloc)?)?;
+    let cons = constructors(alloc)?;
     let name = Text::from_str(alloc, "Q")?;
     let mut types = TypeTable::new(alloc);
     types.add(TypeDef { name, cons })?;
@@ -149,8 +159,11 @@ fn adding(alloc: Global) -> Result<FunctionDef, NoMemory>
 
 fn queue_defs(alloc: Global) -> Result<Defs, NoMemory> {
     let mut functions = Items::new(alloc);
-    functions.push(adding(alloc)?)?;
-    Ok(Defs::new(types(alloc)?, functions, Items::new(alloc)))
+    let function = adding(alloc)?;
+    functions.push(function)?;
+    let table = types(alloc)?;
+    let constants = Items::new(alloc);
+    Ok(Defs::new(table, functions, constants))
 }
 
 /// Cell(5, Cell(6, Nil)).
