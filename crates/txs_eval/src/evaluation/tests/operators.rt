@@ -1,7 +1,13 @@
 use super::*;
 
 /// An operator on two numbers.
-fn of_numbers(alloc: Global, defs: &Defs, operator: Binary, x: i128, y: i128) -> Result<Text, NoMemory> {
+fn of_numbers(
+    alloc: Global,
+    defs: &Defs,
+    operator: Binary,
+    x: i128,
+    y: i128,
+) -> Result<Text, NoMemory> {
     match operator {
         Binary::Concat => Text::from_str(alloc, "of texts"),
         Binary::CharAt => Text::from_str(alloc, "of a text"),
