@@ -1,13 +1,19 @@
--- A recursive function that is well typed.
-use Rattle.std.proofs.Common.{◌≡◌, ℕ, zero, suc, pos, true, List, [], ◌∷◌, Option, None, Some, refl, sym, subst, arith, slice_get}
-use Rattle.txs_values.specs.Value.{Table, whole, num, fits}
+-- Definitions of one function that are well typed, and expressions over them.
+use Rattle.std.proofs.Common.{◌≡◌, ℕ, zero, suc, ◌<◌, ℤ, pos, true, List, [], ◌∷◌, Option, None, Some, refl, sym, subst, arith, slice_get, FitsSigned, codes}
+use Rattle.std.specs.Int.{w128}
+use Rattle.txs_values.specs.Value.{Ty, whole, string, named, Table, Constructor, TypeDef, Place, place_of, field_types, num, cons, no_value, fits, Value}
+use Rattle.txs_values.specs.Default.{default_if}
+use Rattle.txs_values.specs.Spelled.{IsName, IsNamed}
 use Rattle.txs_terms.specs.declared.defs.FunctionDef as rust_function
 use Rattle.txs_terms.specs.declared.defs.ConstantDef as rust_constant
-use Rattle.txs_terms.specs.View.{function_of, definitions_of}
-use Rattle.txs_values.specs.Spelled.{IsNamed}
-use Rattle.txs_terms.specs.Expr.{Expr, val, slot, two, equal, choose, apply, none, more, minus}
-use Rattle.txs_terms.specs.Typed.{Signature, Of, IsTable, minus_of, val_of, slot_of, two_of, equal_of, choose_of, apply_of, none_of, more_of'}
-use Rattle.txs_terms.specs.Defs.{Definitions, AreDefined, bodies, signatures_of}
+use Rattle.txs_terms.specs.declared.expr.Binary as rust_binary
+use Rattle.txs_terms.specs.declared.expr.Binary.TheVariants as binary
+use Rattle.txs_terms.specs.View.{binary_of, function_of, definitions_of}
+use Rattle.txs_terms.specs.Expr.{Expr, val, slot, one, two, equal, choose, apply, build, none, more, minus, concat, is_made_by, select}
+use Rattle.txs_terms.specs.Typed.{Signature, IsType, Of, BinaryOf, plus_of, minus_of, times_of, divide_of, remainder_of, concat_of, differ_of, less_of, at_most_of, more_of, at_least_of, made_by_of, select_of, IsTable, AreTypes, val_of, slot_of, one_of, two_of, equal_of, choose_of, apply_of, build_of, none_of, more_of'}
+use Rattle.txs_terms.specs.Defs.{Function, Definitions, AreDefined, bodies, signatures_of}
+use Rattle.txs_eval.specs.Answer.{IsTyped}
+use Rattle.txs_eval.proofs.Ranges.{fits_true}
 
 none_some : {A : Type 0} {p : A} → ◌≡◌ {A = Option A} None (Some p) → ⊥
 none_some e = cc
@@ -15,22 +21,40 @@ none_some e = cc
 some_same : {A : Type 0} {p q : A} → Some p ≡ Some q → p ≡ q
 some_same e = cc
 
-no_table : IsTable []
+-- ---- definitions of one function
+
+abbrev pub alone : Table → Function → Definitions
+alone table f = record { table = table; functions = f ∷ []; constants = [] }
+
+module _ (table : Table) (f : Function) where
+  abbrev Has : ℕ → Signature → Type 0
+  Has k s = (e : Expr) × (slice_get (bodies (alone table f)).functions k ≡ Some e) × Of table (signatures_of (alone table f)) s.takes [] e s.gives
+
+  has : Of table (signatures_of (alone table f)) f.takes [] f.body f.gives
+      → (k : ℕ) (s : Signature) → slice_get (signatures_of (alone table f)).functions k ≡ Some s → Has k s
+  has h zero s e = subst (Has 0) (some_same e) (f.body, refl, h)
+  has h (suc k) s e = absurd (none_some e)
+
+  pub alone_defined : AreTypes table f.takes × IsType table f.gives → IsTable table → IsNamed table → Of table (signatures_of (alone table f)) f.takes [] f.body f.gives → AreDefined (alone table f)
+  alone_defined k t n h = record {
+    functions = (k, tt);
+    constants = tt;
+    typed = record { table = t; functions = has h; constants = λ k t e. absurd (none_some e) };
+    named = n;
+  }
+
+-- what a program holds of them
+pub held : (table : Table) (fs : List rust_function.FunctionDef) (ks : List rust_constant.ConstantDef) (f : rust_function.FunctionDef) (t : Table) (g : Function)
+    → table ≡ t → fs ≡ f ∷ [] → ks ≡ [] → function_of f ≡ g → AreDefined (alone t g) → AreDefined (definitions_of (table, fs, ks))
+held table fs ks f t g a b c e h = rw (a, b, c) (subst (λ g. AreDefined (alone t g)) (sym e) h)
+
+-- ---- functions without types of their own
+
+pub no_table : IsTable []
 no_table = record { defaults = λ k h. absurd (omega (arith, h)); known = λ c p e. absurd (none_some e) }
 
-no_names : IsNamed []
+pub no_names : IsNamed []
 no_names = record { names = λ c p e. absurd (none_some e); distinct = λ c d p q e. absurd (none_some e) }
-
--- IF n == 0 THEN 0 ELSE f(n - 1) FI
-abbrev pub counting : Expr
-counting = choose (equal (slot 0) (val (num (pos 0)))) (val (num (pos 0))) (apply 0 (more (two minus (slot 0) (val (num (pos 1)))) none))
-
-abbrev pub recursive : List ℕ → Definitions
-recursive f = record {
-  table = [];
-  functions = record { name = f; takes = whole ∷ []; gives = whole; body = counting } ∷ [];
-  constants = [];
-}
 
 zero_fits : fits (pos 0) ≡ true
 unfolding fits
@@ -40,26 +64,145 @@ one_fits : fits (pos 1) ≡ true
 unfolding fits
 one_fits = refl
 
-abbrev Has : List ℕ → ℕ → Signature → Type 0
-Has f k s = (e : Expr) × (slice_get (bodies (recursive f)).functions k ≡ Some e) × Of [] (signatures_of (recursive f)) s.takes [] e s.gives
-
-has : (f : List ℕ) (k : ℕ) (s : Signature) → slice_get (signatures_of (recursive f)).functions k ≡ Some s → Has f k s
-has f zero s e = subst (Has f 0) (some_same e) (
-  counting,
-  refl,
-  choose_of (equal_of (slot_of refl) (val_of zero_fits)) (val_of zero_fits)
-      (apply_of refl (more_of' (two_of minus_of (slot_of refl) (val_of one_fits)) none_of)),
-)
-has f (suc k) s e = absurd (none_some e)
-
-pub recursive_defined : (f : List ℕ) → AreDefined (recursive f)
-recursive_defined f = record {
-  functions = (((tt, tt), tt), tt);
-  constants = tt;
-  typed = record { table = no_table; functions = has f; constants = λ k t e. absurd (none_some e) };
-  named = no_names;
+-- IF n == 0 THEN 0 ELSE f(n - 1) FI
+abbrev pub counting : List ℕ → Function
+counting f = record {
+  name = f;
+  takes = whole ∷ [];
+  gives = whole;
+  body = choose (equal (slot 0) (val (num (pos 0)))) (val (num (pos 0))) (apply 0 (more (two minus (slot 0) (val (num (pos 1)))) none));
 }
 
-pub defined_by : (table : Table) (fs : List rust_function.FunctionDef) (ks : List rust_constant.ConstantDef) (f : rust_function.FunctionDef) → table ≡ [] → fs ≡ f ∷ [] → ks ≡ []
-    → function_of f ≡ record { name = f.name; takes = whole ∷ []; gives = whole; body = counting } → AreDefined (definitions_of (table, fs, ks))
-defined_by table fs ks f a b c e = rw (a, b, c) (subst (λ g. AreDefined (record { table = []; functions = g ∷ []; constants = [] })) (sym e) (recursive_defined f.name))
+pub counting_defined : (f : List ℕ) → AreDefined (alone [] (counting f))
+counting_defined f = alone_defined [] (counting f) ((tt, tt), tt) no_table no_names
+    (choose_of (equal_of (slot_of refl) (val_of zero_fits)) (val_of zero_fits)
+    (apply_of refl (more_of' (two_of minus_of (slot_of refl) (val_of one_fits)) none_of)))
+
+-- IF n == 0 THEN s ELSE dbl(s ++ s, n - 1) FI
+abbrev pub doubling : List ℕ → Function
+doubling f = record {
+  name = f;
+  takes = string ∷ whole ∷ [];
+  gives = string;
+  body =
+      choose (equal (slot 1) (val (num (pos 0)))) (slot 0)
+      (apply 0 (more (two concat (slot 0) (slot 0)) (more (two minus (slot 1) (val (num (pos 1)))) none)));
+}
+
+pub doubling_defined : (f : List ℕ) → AreDefined (alone [] (doubling f))
+doubling_defined f = alone_defined [] (doubling f) ((tt, (tt, tt)), tt) no_table no_names
+    (choose_of (equal_of (slot_of refl) (val_of zero_fits)) (slot_of refl)
+    (apply_of refl (more_of' (two_of concat_of (slot_of refl) (slot_of refl)) (more_of' (two_of minus_of (slot_of refl) (val_of one_fits)) none_of))))
+
+-- ---- a type of queues
+
+abbrev nil : Constructor
+nil = record { name = codes "Nil"; fields = [] }
+
+abbrev cell : Constructor
+cell = record { name = codes "Cell"; fields = record { name = codes "hd"; ty = whole } ∷ record { name = codes "tl"; ty = named 0 } ∷ [] }
+
+abbrev pub queues : Table
+queues = record { name = codes "Q"; constructors = nil ∷ cell ∷ [] } ∷ []
+
+abbrev Default : ℕ → Type 0
+Default k = (v : Value) × (default_if queues (named k) ≡ Some v)
+
+queue_default : (k : ℕ) → k < 1 → Default k
+queue_default zero h = (cons 0 no_value, refl)
+queue_default (suc k) h = absurd (omega (arith, h))
+
+abbrev Known : Place → Type 0
+Known p = AreTypes queues (field_types p.constructor.fields)
+
+queue_known : (c : ℕ) (p : Place) → place_of queues c ≡ Some p → Known p
+queue_known zero p e = subst Known (some_same e) tt
+queue_known (suc zero) p e = subst Known (some_same e) (tt, (omega arith, tt))
+queue_known (suc (suc c)) p e = absurd (none_some e)
+
+abbrev Named : Place → Type 0
+Named p = IsName p.constructor.name
+
+queue_names : (c : ℕ) (p : Place) → place_of queues c ≡ Some p → Named p
+queue_names zero p e = subst Named (some_same e) (refl, (refl, (refl, tt)))
+queue_names (suc zero) p e = subst Named (some_same e) (refl, (refl, (refl, (refl, tt))))
+queue_names (suc (suc c)) p e = absurd (none_some e)
+
+nil_or_cell : (p q : Place) → Some (record { ty = 0; constructor = nil }) ≡ Some p → Some (record { ty = 0; constructor = cell }) ≡ Some q
+    → p.constructor.name ≡ q.constructor.name → ⊥
+nil_or_cell p q a b e =
+    let n : codes "Nil" ≡ codes "Cell" = subst (λ (r : Place). codes "Nil" ≡ r.constructor.name) (sym (some_same b)) (subst (λ (r : Place). r.constructor.name ≡ q.constructor.name) (sym (some_same a)) e) in cc
+
+queue_distinct : (c d : ℕ) (p q : Place) → place_of queues c ≡ Some p → place_of queues d ≡ Some q → p.constructor.name ≡ q.constructor.name → c ≡ d
+queue_distinct zero zero p q a b e = refl
+queue_distinct zero (suc zero) p q a b e = absurd (nil_or_cell p q a b e)
+queue_distinct (suc zero) zero p q a b e = absurd (nil_or_cell q p b a (sym e))
+queue_distinct (suc zero) (suc zero) p q a b e = refl
+queue_distinct (suc (suc c)) d p q a b e = absurd (none_some a)
+queue_distinct zero (suc (suc d)) p q a b e = absurd (none_some b)
+queue_distinct (suc zero) (suc (suc d)) p q a b e = absurd (none_some b)
+
+-- IF isNil(q) THEN Cell(n, Nil) ELSE Cell(hd(q), add(tl(q), n)) FI
+abbrev pub adding : List ℕ → Function
+adding f = record {
+  name = f;
+  takes = named 0 ∷ whole ∷ [];
+  gives = named 0;
+  body =
+      choose (one (is_made_by 0) (slot 0)) (build 1 (more (slot 1) (more (val (cons 0 no_value)) none)))
+      (build 1 (more (one (select 1 0) (slot 0)) (more (apply 0 (more (one (select 1 1) (slot 0)) (more (slot 1) none))) none)));
+}
+
+pub adding_defined : (f : List ℕ) → AreDefined (alone queues (adding f))
+adding_defined f = alone_defined queues (adding f) ((omega arith, (tt, tt)), omega arith)
+    (record { defaults = queue_default; known = queue_known })
+    (record { names = queue_names; distinct = queue_distinct })
+    (choose_of (one_of (made_by_of 0 0 nil refl) (slot_of refl))
+    (build_of refl (more_of' (slot_of refl) (more_of' (val_of refl) none_of)))
+    (build_of refl (more_of' (one_of (select_of 1 0 0 whole cell refl refl) (slot_of refl))
+    (more_of' (apply_of refl (more_of' (one_of (select_of 1 1 0 (named 0) cell refl refl) (slot_of refl)) (more_of' (slot_of refl) none_of))) none_of))))
+
+-- ---- expressions
+
+-- a call of the first function on a number
+pub call_typed : (d : Definitions) (e : Expr) (x : ℤ) → AreDefined d → slice_get (signatures_of d).functions 0 ≡ Some (record { takes = whole ∷ []; gives = whole })
+    → FitsSigned w128 x → e ≡ apply 0 (more (val (num x)) none) → (t : Ty) × IsTyped d [] e t
+call_typed d e x h s f q = (
+  whole,
+  record {
+    signatures = signatures_of d;
+    definitions = h.typed;
+    types = [];
+    have = tt;
+    typed = subst (λ e. Of d.table (signatures_of d) [] [] e whole) (sym q) (apply_of s (more_of' (val_of (fits_true x f)) none_of));
+  },
+)
+
+-- what an operator gives on two numbers
+result_of : (o : rust_binary.Binary) → (o ≡ binary.Concat → ⊥) → (o ≡ binary.CharAt → ⊥) → (t : Ty) × BinaryOf (binary_of o) whole whole t
+result_of binary.Plus h k = (_, plus_of)
+result_of binary.Minus h k = (_, minus_of)
+result_of binary.Times h k = (_, times_of)
+result_of binary.Divide h k = (_, divide_of)
+result_of binary.Remainder h k = (_, remainder_of)
+result_of binary.Concat h k = absurd (h refl)
+result_of binary.Differ h k = (_, differ_of whole)
+result_of binary.LessThan h k = (_, less_of)
+result_of binary.AtMost h k = (_, at_most_of)
+result_of binary.MoreThan h k = (_, more_of)
+result_of binary.AtLeast h k = (_, at_least_of)
+result_of binary.CharAt h k = absurd (k refl)
+
+pub numbers_typed : (d : Definitions) (o : rust_binary.Binary) (e : Expr) (x y : ℤ) → AreDefined d → (o ≡ binary.Concat → ⊥) → (o ≡ binary.CharAt → ⊥)
+    → FitsSigned w128 x → FitsSigned w128 y → e ≡ two (binary_of o) (val (num x)) (val (num y)) → (t : Ty) × IsTyped d [] e t
+numbers_typed d o e x y h k l f g q =
+    let r = result_of o k l in (
+      r.0,
+      record {
+        signatures = signatures_of d;
+        definitions = h.typed;
+        types = [];
+        have = tt;
+        typed = subst (λ e. Of d.table (signatures_of d) [] [] e r.0) (sym q) (two_of r.1 (val_of (fits_true x f)) (val_of (fits_true y g)));
+      },
+    )

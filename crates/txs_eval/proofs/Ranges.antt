@@ -6,7 +6,7 @@ use Rattle.std.specs.Int.Signed.{mag}
 use Rattle.txs_values.specs.Value.{fits, num}
 use Rattle.txs_terms.specs.Eval.{Outcome, in_range, fine, broken, range}
 
-fits_true : (z : ℤ) → FitsSigned w128 z → fits z ≡ true
+pub fits_true : (z : ℤ) → FitsSigned w128 z → fits z ≡ true
 unfolding fits
 fits_true z h = (Decides-ltb (mag z) (2 ^ 127)).1 h.sfits
 
