@@ -9,6 +9,7 @@ mod meaning;
 mod names;
 mod query;
 mod scope;
+mod table_names;
 mod typed;
 
 pub use fault::TypeFault;
