@@ -1,6 +1,6 @@
 ghost use Rattle.std.specs.Prelude.{◌≡◌, ◌++◌, ◌∷◌, [], IfOk, OnOk, map, codes};
 ghost use Rattle.txs_values.specs.View.{ty_of};
-ghost use Rattle.txs_values.specs.TableView.{field_of, cons_of, conses_of};
+ghost use Rattle.txs_values.specs.TableView.{field_of, cons_of, conses_of, table_of};
 ghost use Rattle.txs_values.specs.Value.{field_types};
 ghost use Rattle.txs_terms.specs.View.{function_of, constant_of, definitions_of};
 ghost use Rattle.txs_types.specs.Names as names;
@@ -147,4 +147,78 @@ pub fn add_constructors(
         place += 1;
     }
     Ok(())
+}
+
+/// Puts the names of the types of a table behind the others.
+fn add_types(
+    alloc: Global,
+    list: &mut Items<GlobalName>,
+    types: &[TypeDef],
+) -> Result<(), NoMemory>
+    ensures { OnOk result (globals_of list.new ≡ globals_of list.old ++ names.table_globals 0 0 (table_of types.now)) }
+{
+    let mut place = 0usize;
+    let mut first = 0usize;
+    for def in types {
+        let of = number_of(place)?;
+        add_constructors(alloc, list, first, of, def.cons.as_slice())?;
+        let Some(behind) = first.checked_add(def.cons.len()) else {
+            return Err(NoMemory);
+        };
+        first = behind;
+        place += 1;
+    }
+    Ok(())
+}
+
+/// Puts the names of functions behind the others.
+fn add_functions(
+    alloc: Global,
+    list: &mut Items<GlobalName>,
+    functions: &[FunctionDef],
+) -> Result<(), NoMemory>
+    ensures { OnOk result (globals_of list.new ≡ globals_of list.old ++ names.function_globals 0 (map function_of functions.now)) }
+{
+    let mut place = 0usize;
+    for function in functions {
+        let means = Meaning::Function {
+            number: number_of(place)?,
+            gives: function.gives,
+        };
+        let takes = Items::from_slice(alloc, function.takes.as_slice())?;
+        add_name(list, function.name.copy(alloc)?, means, takes)?;
+        place += 1;
+    }
+    Ok(())
+}
+
+/// Puts the names of constants behind the others.
+fn add_constants(
+    alloc: Global,
+    list: &mut Items<GlobalName>,
+    constants: &[ConstantDef],
+) -> Result<(), NoMemory>
+    ensures { OnOk result (globals_of list.new ≡ globals_of list.old ++ names.constant_globals 0 (map constant_of constants.now)) }
+{
+    let mut place = 0usize;
+    for constant in constants {
+        let means = Meaning::Constant {
+            number: number_of(place)?,
+            ty: constant.ty,
+        };
+        add_name(list, constant.name.copy(alloc)?, means, Items::new(alloc))?;
+        place += 1;
+    }
+    Ok(())
+}
+
+/// The names of the language and those that definitions define, in order.
+pub fn global_names(alloc: Global, defs: &Defs) -> Result<GlobalNames, NoMemory>
+    ensures { IfOk result (λ g. globals_of g.list ≡ (names.scope_of (definitions_of defs.now) []).globals) }
+{
+    let mut list = built_ins(alloc)?;
+    add_types(alloc, &mut list, defs.table().as_slice())?;
+    add_functions(alloc, &mut list, defs.functions())?;
+    add_constants(alloc, &mut list, defs.constants())?;
+    Ok(GlobalNames { list })
 }
