@@ -11,3 +11,5 @@ mod Tables
 mod Distinct
 mod Defined
 mod Accepted
+pub mod ToldLaws
+pub mod NameLaws

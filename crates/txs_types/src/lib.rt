@@ -10,6 +10,7 @@ mod names;
 mod query;
 mod scope;
 mod table_names;
+mod told;
 mod typed;
 
 pub use fault::TypeFault;
