@@ -1,10 +1,11 @@
-ghost use Rattle.std.specs.Prelude.{◌≡◌, ◌++◌, IfOk, OnOk, ℕ, Some, true, map, slice_get};
+ghost use Rattle.std.specs.Prelude.{◌≡◌, ◌++◌, IfOk, OnOk, ℕ, Some, true, map, slice_get, MatchBool};
 ghost use Rattle.txs_values.specs.View.{ty_of};
 ghost use Rattle.txs_values.specs.TableView.{field_of};
 ghost use Rattle.txs_syntax.specs.declared.ast.Name.{Name as TheName};
+ghost use Rattle.txs_types.specs.declared.fault.TypeFault.TheVariants as fault;
 ghost use Rattle.txs_types.specs.Offends.{unknown};
 ghost use Rattle.txs_types.specs.Files as files;
-ghost use Rattle.txs_types.specs.Told.{Finds};
+ghost use Rattle.txs_types.specs.Told.{Finds, Added};
 
 use crate::fault::TypeFault;
 use crate::table_names::number_of;
@@ -95,10 +96,56 @@ pub fn names_in(alloc: Global, list: &DeclList) -> Result<Items<Name>, NoMemory>
     Ok(names)
 }
 
-/// The first place of a type name without a definition, among the types of declarations.
-pub fn undefined(_types: &[Name], _list: &DeclList) -> Option<TypeFault>
-    ensures { Finds result (λ o. (j : ℕ) × (n : TheName) × (slice_get (files.types_used _list.now.decls) j ≡ Some n)
-        × (files.is_undefined _types.now n ≡ true) × (o ≡ unknown n.at)) }
+/// Whether one of the names is this text.
+fn is_named(types: &[Name], name: &Text) -> bool
+    ensures { result ≡ files.is_among name.now (map (λ x. x.text) types.now) }
 {
-    Some(TypeFault::NoMemory)
+    for ty in types {
+        if ty.text.is(name) {
+            return true;
+        }
+    }
+    false
+}
+
+/// Whether the language has a type of this name.
+fn is_built_in(name: &Text) -> bool
+    ensures { result ≡ files.is_among name.now files.built_in_types }
+{
+    match name.as_str() {
+        "Int" => true,
+        "Bool" => true,
+        "String" => true,
+        _ => false,
+    }
+}
+
+/// Whether a type name has no definition, where a file defines types of these names.
+pub fn is_undefined(types: &[Name], name: &Name) -> bool
+    ensures { result ≡ files.is_undefined types.now name.now }
+{
+    !is_built_in(&name.text) && !is_named(types, &name.text)
+}
+
+/// What was told so far, with a type name more, which may have no definition.
+pub fn with_undefined(told: Option<TypeFault>, types: &[Name], name: &Name) -> Option<TypeFault>
+    ensures { MatchBool (files.is_undefined types.now name.now) (Added told (fault.Unknown name.now.at) result) (result ≡ told) }
+{
+    if is_undefined(types, name) {
+        added(told, TypeFault::Unknown { at: name.at })
+    } else {
+        told
+    }
+}
+
+/// The first place of a type name without a definition, among the types of declarations.
+pub fn undefined(types: &[Name], list: &DeclList) -> Option<TypeFault>
+    ensures { Finds result (λ o. (j : ℕ) × (n : TheName) × (slice_get (files.types_used list.now.decls) j ≡ Some n)
+        × (files.is_undefined types.now n ≡ true) × (o ≡ unknown n.at)) }
+{
+    let mut told = None;
+    for decl in list.decls.as_slice() {
+        told = with_undefined(told, types, &decl.ty);
+    }
+    told
 }
