@@ -13,3 +13,4 @@ mod Defined
 mod Accepted
 pub mod ToldLaws
 pub mod NameLaws
+mod QueryLaws

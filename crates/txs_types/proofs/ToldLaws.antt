@@ -115,7 +115,7 @@ told_either f g _ P Q d e (right_first a b p q k) =
     decides_told g y.0 (Either P Q) y.1.0
     (second_of_both P Q x.0 y.0 (told_decides f x.0 P x.1.0 d) (told_decides g y.0 Q y.1.0 e) (apart_back x.0 y.0 a b (x.1.1, x.1.2) (y.1.1, y.1.2) k))
 
-only_left : (P Q : Offence → Type 0) → ((o : Offence) → Q o → ⊥) → (o : Offence) → Either P Q o → P o
+pub only_left : (P Q : Offence → Type 0) → ((o : Offence) → Q o → ⊥) → (o : Offence) → Either P Q o → P o
 only_left P Q none o (inl p) = p
 only_left P Q none o (inr q) = absurd (none o q)
 

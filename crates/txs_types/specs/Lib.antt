@@ -6,3 +6,4 @@ pub mod Laws
 pub mod Answer
 pub mod Told
 pub mod View
+pub mod Queries
