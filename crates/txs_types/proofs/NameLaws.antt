@@ -100,17 +100,23 @@ unknown_next types ns m f r h k = by_bool (is_undefined types m) refl k
   where
     P : Offence → Type 0
     P = UnknownAmong types ns
+
     Q : Offence → Type 0
     Q = λ o. o ≡ unknown m.at
+
     W : Offence → Type 0
     W = UnknownAmong types (ns ++ m ∷ [])
+
     to : is_undefined types m ≡ true → (o : Offence) → P o ⊎ (o ≡ unknown m.at) → W o
     to u o (inl p) = unknown_front types ns m o p
     to u o (inr e) = (length ns, m, get_end ns m, u, e)
+
     back : (o : Offence) → W o → P o ⊎ (o ≡ unknown m.at)
     back o w = elim (unknown_last types ns m o w) [ inl p ↦ inl p | inr q ↦ inr q.1 ]
+
     back_known : is_undefined types m ≡ false → (o : Offence) → W o → P o
     back_known u o w = elim (unknown_last types ns m o w) [ inl p ↦ p | inr q ↦ absurd (true≢false (sym q.0 ∙ u)) ]
+
     by_bool : (b : Bool) → is_undefined types m ≡ b → MatchBool b (Added f (fault.Unknown m.at) r) (r ≡ f) → Finds r W
     by_bool true u a = finds_same r (Either P Q) W (to u) back (finds_added f (fault.Unknown m.at) r P Q h (unknown_told m.at) a)
     by_bool false u e = subst (λ r. Finds r W) (sym e) (finds_same f P W (unknown_front types ns m) (back_known u) h)
@@ -157,19 +163,26 @@ repeats_next xs ns m f r h k = by_bool (is_among m.text (seen xs ns)) refl k
   where
     P : Offence → Type 0
     P = RepeatsAmong xs ns
+
     Q : Offence → Type 0
     Q = λ o. o ≡ twice m.at
+
     W : Offence → Type 0
     W = RepeatsAmong xs (ns ++ m ∷ [])
+
     front : (o : Offence) → P o → W o
     front o (at, e, p) = (at, e, repeats_front xs ns m at p)
+
     to : is_among m.text (seen xs ns) ≡ true → (o : Offence) → P o ⊎ (o ≡ twice m.at) → W o
     to u o (inl p) = front o p
     to u o (inr e) = (m.at, e, repeats_end xs ns m u)
+
     back : (o : Offence) → W o → P o ⊎ (o ≡ twice m.at)
     back o (at, e, w) = elim (repeats_last xs ns m at w) [ inl p ↦ inl (at, e, p) | inr q ↦ inr (e ∙ ap twice q.1) ]
+
     back_new : is_among m.text (seen xs ns) ≡ false → (o : Offence) → W o → P o
     back_new u o (at, e, w) = elim (repeats_last xs ns m at w) [ inl p ↦ (at, e, p) | inr q ↦ absurd (true≢false (sym q.0 ∙ u)) ]
+
     by_bool : (b : Bool) → is_among m.text (seen xs ns) ≡ b → MatchBool b (Added f (fault.Twice m.at) r) (r ≡ f) → Finds r W
     by_bool true u a = finds_same r (Either P Q) W (to u) back (finds_added f (fault.Twice m.at) r P Q h (twice_told m.at) a)
     by_bool false u e = subst (λ r. Finds r W) (sym e) (finds_same f P W front (back_new u) h)

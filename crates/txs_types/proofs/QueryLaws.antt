@@ -46,11 +46,14 @@ declarations_told types list ns a b r same d e h =
   where
     P : Offence → Type 0
     P = RepeatsAmong [] (names_in list.decls)
+
     Q : Offence → Type 0
     Q = UnknownAmong types (types_used list.decls)
+
     to : (o : Offence) → RepeatsAmong [] (names_in list.decls) o ⊎ UnknownAmong types (types_used list.decls) o → DeclarationOffends types list o
     to o (inl (at, e, k)) = subst (DeclarationOffends types list) (sym e) (twice_there k)
     to o (inr (j, n, k, u, e)) = subst (DeclarationOffends types list) (sym e) (unknown_there j k u)
+
     back : (o : Offence) → DeclarationOffends types list o → RepeatsAmong [] (names_in list.decls) o ⊎ UnknownAmong types (types_used list.decls) o
     back o (twice_there {at = at} k) = inl (at, refl, k)
     back o (unknown_there j {n = n} k u) = inr (j, n, k, u, refl)

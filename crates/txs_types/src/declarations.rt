@@ -59,11 +59,7 @@ fn add_each(
 }
 
 /// The variables that are declared, each with its type.
-pub fn variables_of(
-    alloc: Global,
-    types: &[Name],
-    list: &DeclList,
-) -> Result<FieldDefs, NoMemory>
+pub fn variables_of(alloc: Global, types: &[Name], list: &DeclList) -> Result<FieldDefs, NoMemory>
     ensures { IfOk result (λ vs. map field_of vs ≡ files.variables_of types.now list.now) }
 {
     let mut variables = Items::new(alloc);

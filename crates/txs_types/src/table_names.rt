@@ -150,11 +150,7 @@ pub fn add_constructors(
 }
 
 /// Puts the names of the types of a table behind the others.
-fn add_types(
-    alloc: Global,
-    list: &mut Items<GlobalName>,
-    types: &[TypeDef],
-) -> Result<(), NoMemory>
+fn add_types(alloc: Global, list: &mut Items<GlobalName>, types: &[TypeDef]) -> Result<(), NoMemory>
     ensures { OnOk result (globals_of list.new ≡ globals_of list.old ++ names.table_globals 0 0 (table_of types.now)) }
 {
     let mut place = 0usize;
