@@ -20,3 +20,5 @@ pub mod Inside
 pub mod Finish
 pub mod CallNodes
 pub mod Sides
+pub mod NameLaws
+mod QueryLaws

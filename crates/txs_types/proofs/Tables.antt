@@ -84,14 +84,14 @@ pub defined_right : (types xs ys : List Name) → AllDefined types (xs ++ ys) �
 defined_right types [] ys h = h
 defined_right types (x ∷ xs) ys h = defined_right types xs ys h.1
 
-all_defined : (types ns : List Name) → ((j : ℕ) (n : Name) → slice_get ns j ≡ Some n → is_undefined types n ≡ false) → AllDefined types ns
+pub all_defined : (types ns : List Name) → ((j : ℕ) (n : Name) → slice_get ns j ≡ Some n → is_undefined types n ≡ false) → AllDefined types ns
 all_defined types [] h = tt
 all_defined types (n ∷ ns) h = (h 0 n refl, all_defined types ns (λ j m e. h (suc j) m e))
 
 abbrev pub NoOffence : File → Type 0
 NoOffence file = (o : Offence) → FileOffends file o → ⊥
 
-not_true : (b : Bool) → (b ≡ true → ⊥) → b ≡ false
+pub not_true : (b : Bool) → (b ≡ true → ⊥) → b ≡ false
 not_true true h = absurd (h refl)
 not_true false h = refl
 

@@ -7,3 +7,4 @@ pub mod Answer
 pub mod Told
 pub mod View
 pub mod Parts
+pub mod Queries

@@ -1,46 +1,147 @@
-ghost use Rattle.std.specs.Prelude.{◌≡◌, IfOk, ℕ, Some, true, map, slice_get};
+ghost use Rattle.std.specs.Prelude.{◌≡◌, ◌++◌, IfOk, OnOk, ℕ, Some, true, map, slice_get, MatchBool};
 ghost use Rattle.txs_values.specs.View.{ty_of};
 ghost use Rattle.txs_values.specs.TableView.{field_of};
 ghost use Rattle.txs_syntax.specs.declared.ast.Name.{Name as TheName};
+ghost use Rattle.txs_types.specs.declared.fault.TypeFault.TheVariants as fault;
 ghost use Rattle.txs_types.specs.Offends.{unknown};
 ghost use Rattle.txs_types.specs.Files as files;
-ghost use Rattle.txs_types.specs.Told.{Finds};
+ghost use Rattle.txs_types.specs.Told.{Finds, Added};
 
 use crate::fault::TypeFault;
+use crate::table_names::number_of;
+use crate::told::added;
 use sqlite_items::Items;
 use std::alloc::Global;
 use txs_syntax::{DeclList, Name};
-use txs_values::{FieldDefs, NoMemory, Text, Ty};
+use txs_values::{FieldDef, FieldDefs, NoMemory, Text, Ty};
+
+/// The number of the type of this name; where there is none, the number behind the last.
+fn type_number(types: &[Name], name: &Text) -> usize
+    ensures { result ≡ files.type_number name.now 0 types.now }
+{
+    for (number, ty) in types.iter().enumerate() {
+        if ty.text.is(name) {
+            return number;
+        }
+    }
+    types.len()
+}
 
 /// The type of this name, where a file defines types of these names; of a name without a definition it is a type that is none of the file's.
-pub fn type_of(_types: &[Name], _name: &Text) -> Result<Ty, NoMemory>
-    ensures { IfOk result (λ t. ty_of t ≡ files.type_of _types.now _name.now) }
+pub fn type_of(types: &[Name], name: &Text) -> Result<Ty, NoMemory>
+    ensures { IfOk result (λ t. ty_of t ≡ files.type_of types.now name.now) }
 {
-    Err(NoMemory)
+    match name.as_str() {
+        "Int" => Ok(Ty::Int),
+        "Bool" => Ok(Ty::Bool),
+        "String" => Ok(Ty::Text),
+        _ => Ok(Ty::Named(number_of(type_number(types, name))?)),
+    }
+}
+
+/// Puts variables of one type behind the others.
+fn add_each(
+    alloc: Global,
+    variables: &mut FieldDefs,
+    ty: Ty,
+    names: &[Name],
+) -> Result<(), NoMemory>
+    ensures { OnOk result (map field_of variables.new ≡ map field_of variables.old ++ files.each_of (ty_of ty) names.now) }
+{
+    for name in names {
+        let field = FieldDef {
+            name: name.text.copy(alloc)?,
+            ty,
+        };
+        variables.push(field)?;
+    }
+    Ok(())
 }
 
 /// The variables that are declared, each with its type.
-pub fn variables_of(
-    _alloc: Global,
-    _types: &[Name],
-    _list: &DeclList,
-) -> Result<FieldDefs, NoMemory>
-    ensures { IfOk result (λ vs. map field_of vs ≡ files.variables_of _types.now _list.now) }
+pub fn variables_of(alloc: Global, types: &[Name], list: &DeclList) -> Result<FieldDefs, NoMemory>
+    ensures { IfOk result (λ vs. map field_of vs ≡ files.variables_of types.now list.now) }
 {
-    Err(NoMemory)
+    let mut variables = Items::new(alloc);
+    for decl in list.decls.as_slice() {
+        let ty = type_of(types, &decl.ty.text)?;
+        add_each(alloc, &mut variables, ty, decl.names.as_slice())?;
+    }
+    Ok(variables)
+}
+
+/// Puts names behind the others.
+pub fn add_names(alloc: Global, list: &mut Items<Name>, names: &[Name]) -> Result<(), NoMemory>
+    ensures { OnOk result (list.new ≡ list.old ++ names.now) }
+{
+    for name in names {
+        let text = name.text.copy(alloc)?;
+        list.push(Name { at: name.at, text })?;
+    }
+    Ok(())
 }
 
 /// All names of declarations, in order.
-pub fn names_in(_alloc: Global, _list: &DeclList) -> Result<Items<Name>, NoMemory>
-    ensures { IfOk result (λ ns. ns ≡ files.names_in _list.now.decls) }
+pub fn names_in(alloc: Global, list: &DeclList) -> Result<Items<Name>, NoMemory>
+    ensures { IfOk result (λ ns. ns ≡ files.names_in list.now.decls) }
 {
-    Err(NoMemory)
+    let mut names = Items::new(alloc);
+    for decl in list.decls.as_slice() {
+        add_names(alloc, &mut names, decl.names.as_slice())?;
+    }
+    Ok(names)
+}
+
+/// Whether one of the names is this text.
+fn is_named(types: &[Name], name: &Text) -> bool
+    ensures { result ≡ files.is_among name.now (map (λ x. x.text) types.now) }
+{
+    for ty in types {
+        if ty.text.is(name) {
+            return true;
+        }
+    }
+    false
+}
+
+/// Whether the language has a type of this name.
+fn is_built_in(name: &Text) -> bool
+    ensures { result ≡ files.is_among name.now files.built_in_types }
+{
+    match name.as_str() {
+        "Int" => true,
+        "Bool" => true,
+        "String" => true,
+        _ => false,
+    }
+}
+
+/// Whether a type name has no definition, where a file defines types of these names.
+pub fn is_undefined(types: &[Name], name: &Name) -> bool
+    ensures { result ≡ files.is_undefined types.now name.now }
+{
+    !is_built_in(&name.text) && !is_named(types, &name.text)
+}
+
+/// What was told so far, with a type name more, which may have no definition.
+pub fn with_undefined(told: Option<TypeFault>, types: &[Name], name: &Name) -> Option<TypeFault>
+    ensures { MatchBool (files.is_undefined types.now name.now) (Added told (fault.Unknown name.now.at) result) (result ≡ told) }
+{
+    if is_undefined(types, name) {
+        added(told, TypeFault::Unknown { at: name.at })
+    } else {
+        told
+    }
 }
 
 /// The first place of a type name without a definition, among the types of declarations.
-pub fn undefined(_types: &[Name], _list: &DeclList) -> Option<TypeFault>
-    ensures { Finds result (λ o. (j : ℕ) × (n : TheName) × (slice_get (files.types_used _list.now.decls) j ≡ Some n)
-        × (files.is_undefined _types.now n ≡ true) × (o ≡ unknown n.at)) }
+pub fn undefined(types: &[Name], list: &DeclList) -> Option<TypeFault>
+    ensures { Finds result (λ o. (j : ℕ) × (n : TheName) × (slice_get (files.types_used list.now.decls) j ≡ Some n)
+        × (files.is_undefined types.now n ≡ true) × (o ≡ unknown n.at)) }
 {
-    Some(TypeFault::NoMemory)
+    let mut told = None;
+    for decl in list.decls.as_slice() {
+        told = with_undefined(told, types, &decl.ty);
+    }
+    told
 }

@@ -12,6 +12,8 @@ mod meaning;
 mod names;
 mod query;
 mod scope;
+mod table_names;
+mod told;
 mod typed;
 
 pub use fault::TypeFault;

@@ -1,4 +1,4 @@
-ghost use Rattle.std.specs.Prelude.{◌≡◌, IfOk, IfErr, []};
+ghost use Rattle.std.specs.Prelude.{◌≡◌, IfOk, IfErr, MatchOption, []};
 ghost use Rattle.txs_values.specs.Value.{Ty as TheType, field_types};
 ghost use Rattle.txs_terms.specs.Typed.{Of};
 ghost use Rattle.txs_terms.specs.Defs.{signatures_of};
@@ -8,17 +8,93 @@ ghost use Rattle.txs_types.specs.Files.{query_scope, QueryOffends, names_of, var
 ghost use Rattle.txs_types.specs.Laws.{IsNeed};
 ghost use Rattle.txs_types.specs.Offends.{Offence};
 ghost use Rattle.txs_types.specs.Answer.{Told, IsSafe};
-ghost use Rattle.txs_types.specs.View.{want_of};
+ghost use Rattle.txs_types.specs.Told.{Finds, Added};
+ghost use Rattle.txs_types.specs.Queries.{DeclarationOffends, Decided};
+ghost use Rattle.txs_values.specs.TableView.{table_of};
+ghost use Rattle.txs_types.specs.View.{want_of, scope_of};
 
-use crate::fault::TypeFault;
+use crate::declarations::{names_in, undefined, variables_of};
+use crate::expression::expression;
+use crate::fault::{TypeFault, lesser};
+use crate::names::repeated;
+use crate::scope::Scope;
+use crate::table_names::{global_names, number_of};
+use crate::told::added;
+use crate::typed::Typed;
+use sqlite_items::Items;
 use std::alloc::Global;
-use txs_syntax::{Ast, DeclList};
+use txs_syntax::{Ast, DeclList, Name};
 use txs_terms::{Defs, Expr};
-use txs_values::Ty;
+use txs_values::{NoMemory, Ty, TypeDef};
+
+/// The names of the types of a table. Of their places nothing is asked.
+fn type_names(alloc: Global, table: &[TypeDef]) -> Result<Items<Name>, NoMemory>
+    ensures { IfOk result (λ ns. ns ≡ names_of (table_of table.now)) }
+{
+    let mut types = Items::new(alloc);
+    for def in table {
+        let text = def.name.copy(alloc)?;
+        types.push(Name { at: 0, text })?;
+    }
+    Ok(types)
+}
+
+/// Of two faults, where they are told, the one that goes first.
+fn first_of(a: Option<TypeFault>, b: Option<TypeFault>) -> Option<TypeFault>
+    ensures { MatchOption b (result ≡ a) (λ g. Added a g result) }
+{
+    match b {
+        None => a,
+        Some(fault) => added(a, fault),
+    }
+}
+
+/// The fault in declarations that decides, where the types have these names.
+fn declaration_fault(
+    alloc: Global,
+    types: &[Name],
+    decls: &DeclList,
+) -> Result<Option<TypeFault>, NoMemory>
+    ensures { IfOk result (λ f. Finds f (DeclarationOffends types.now decls.now)) }
+{
+    let names = names_in(alloc, decls)?;
+    let twice = repeated(alloc, &[], names.as_slice())?;
+    Ok(first_of(twice, undefined(types, decls)))
+}
+
+/// The scope of an expression over definitions, whose types have these names, and declarations.
+fn scope_over(
+    alloc: Global,
+    defs: &Defs,
+    types: &[Name],
+    decls: &DeclList,
+) -> Result<Scope, NoMemory>
+    requires { types.now ≡ names_of defs.now.0 }
+    ensures { IfOk result (λ s. scope_of s ≡ query_scope (definitions_of defs.now) decls.now) }
+{
+    Ok(Scope {
+        types: number_of(types.len())?,
+        globals: global_names(alloc, defs)?,
+        slots: variables_of(alloc, types, decls)?,
+        locals: Items::new(alloc),
+    })
+}
+
+/// The expression, or what decides where a fault was told before.
+fn decided(told: Option<TypeFault>, typed: Result<Typed, TypeFault>) -> Result<Expr, TypeFault>
+    ensures { Decided told typed result }
+{
+    match (told, typed) {
+        (None, Ok(typed)) => Ok(typed.expr),
+        (None, Err(fault)) => Err(fault),
+        (Some(fault), Ok(_)) => Err(fault),
+        (Some(first), Err(fault)) => Err(lesser(first, fault)),
+    }
+}
 
 /// The expression that a tree means over definitions and declared variables, slot k of which is the variable k, where a type is needed, or none; or the offence that decides.
 pub fn type_query(
-    _alloc: Global,
+    alloc: Global,
     defs: &Defs,
     decls: &DeclList,
     tree: &Ast,
@@ -33,5 +109,8 @@ pub fn type_query(
         → IsSafe (definitions_of defs.now) (field_types (variables_of (names_of defs.now.0) decls.now)) (expr_of e) t) }
     ensures offends { IfErr result (λ f. Told f (QueryOffends (definitions_of defs.now) decls.now (want_of want) tree.now)) }
 {
-    Err(TypeFault::NoMemory)
+    let types = type_names(alloc, defs.table().as_slice())?;
+    let declared = declaration_fault(alloc, types.as_slice(), decls)?;
+    let mut scope = scope_over(alloc, defs, types.as_slice(), decls)?;
+    decided(declared, expression(alloc, &mut scope, want, tree))
 }

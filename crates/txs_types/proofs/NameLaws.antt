@@ -1,0 +1,222 @@
+-- Loops over names: the number of a type, names without a definition, names that stand before already.
+use Rattle.std.proofs.Common.{◌≡◌, ◌⊎◌, ◌↔◌, ◌<◌, ◌+◌, ℕ, zero, suc, Bool, true, false, ◌||◌, cond, bytes_eq, refl, sym, ap, subst, ◌∙◌, inl, inr, List, [], ◌∷◌, ◌++◌, length, map, take, drop, get_or, slice_get, Option, Some, None, MatchBool, add-one, true≢false}
+use Rattle.std.proofs.Math.Seq.{drop-cons, drop-length}
+use Rattle.std.proofs.lemmas.List.{take_more, map-append}
+use Rattle.std.proofs.lemmas.Slice.Eq.{bytes_eq-Decides}
+use Rattle.txs_syntax.specs.declared.ast.Name.{Name}
+use Rattle.txs_syntax.specs.declared.file.Decl.{Decl}
+use Rattle.txs_types.specs.declared.fault.TypeFault.{TypeFault}
+use Rattle.txs_types.specs.declared.fault.TypeFault.TheVariants as fault
+use Rattle.txs_types.specs.Offends.{Offence, twice, unknown}
+use Rattle.txs_types.specs.Files.{type_number, is_among, is_undefined, types_used, Repeats, here, behind}
+use Rattle.txs_types.specs.Told.{Added, Finds}
+use Rattle.txs_types.proofs.Unique.{some_injective}
+use Rattle.txs_types.proofs.NotBoth.{none≢some}
+use Rattle.txs_types.proofs.ToldLaws.{Either, finds_same, finds_added, unknown_told, twice_told}
+
+-- ---- the item at hand
+
+-- the rest of a list begins with the item at hand
+pub rest_is : {A : Type 0} (xs : List A) (i : ℕ) (x : A) → i < length xs → x ≡ get_or xs i x → drop i xs ≡ x ∷ drop (i + 1) xs
+rest_is xs i x h e = drop-cons xs i x h ∙ (ap (λ y. y ∷ drop (suc i) xs) (sym e) ∙ ap (λ k. x ∷ drop k xs) (sym (add-one i)))
+
+-- and what was passed ends with it
+pub passed_is : {A : Type 0} (xs : List A) (i : ℕ) (x : A) → i < length xs → x ≡ get_or xs i x → take (i + 1) xs ≡ take i xs ++ x ∷ []
+passed_is xs i x h e = take_more xs i x h ∙ ap (λ y. take i xs ++ y ∷ []) (sym e)
+
+pub same_text : (x y : List ℕ) → x ≡ y → bytes_eq x y ≡ true
+same_text x y e = (bytes_eq-Decides x y).1 e
+
+not_true : (b : Bool) → (b ≡ true → ⊥) → b ≡ false
+not_true true h = absurd (h refl)
+not_true false h = refl
+
+pub other_text : (x y : List ℕ) → (x ≡ y → ⊥) → bytes_eq x y ≡ false
+other_text x y h = not_true (bytes_eq x y) (λ e. h ((bytes_eq-Decides x y).0 e))
+
+-- ---- the number of a type
+
+pub number_found : (x : List ℕ) (types : List Name) (i : ℕ) (n : Name) → i < length types → n ≡ get_or types i n → n.text ≡ x
+    → type_number x i (drop i types) ≡ i
+number_found x types i n h e same =
+    ap (type_number x i) (rest_is types i n h e) ∙ ap (λ b. cond b i (type_number x (suc i) (drop (i + 1) types))) (same_text n.text x same)
+
+pub number_passed : (x : List ℕ) (types : List Name) (i : ℕ) (n : Name) → i < length types → n ≡ get_or types i n → (n.text ≡ x → ⊥)
+    → type_number x (i + 1) (drop (i + 1) types) ≡ type_number x i (drop i types)
+number_passed x types i n h e other =
+    ap (λ k. type_number x k (drop (i + 1) types)) (add-one i)
+    ∙ sym (ap (type_number x i) (rest_is types i n h e) ∙ ap (λ b. cond b i (type_number x (suc i) (drop (i + 1) types))) (other_text n.text x other))
+
+-- ---- one of the names is a text
+
+abbrev pub texts : List Name → List (List ℕ)
+texts ns = map (λ n. n.text) ns
+
+pub among_found : (x : List ℕ) (types : List Name) (i : ℕ) (n : Name) → i < length types → n ≡ get_or types i n → n.text ≡ x
+    → is_among x (texts (drop i types)) ≡ true
+among_found x types i n h e same =
+    ap (λ ns. is_among x (texts ns)) (rest_is types i n h e) ∙ ap (λ b. b || is_among x (texts (drop (i + 1) types))) (same_text n.text x same)
+
+pub among_passed : (x : List ℕ) (types : List Name) (i : ℕ) (n : Name) → i < length types → n ≡ get_or types i n → (n.text ≡ x → ⊥)
+    → is_among x (texts (drop (i + 1) types)) ≡ is_among x (texts (drop i types))
+among_passed x types i n h e other =
+    sym (ap (λ ns. is_among x (texts ns)) (rest_is types i n h e) ∙ ap (λ b. b || is_among x (texts (drop (i + 1) types))) (other_text n.text x other))
+
+-- ---- names without a definition
+
+-- one of the names is of no type
+abbrev pub UnknownAmong : List Name → List Name → Offence → Type 0
+UnknownAmong types ns o = (j : ℕ) × (n : Name) × (slice_get ns j ≡ Some n) × (is_undefined types n ≡ true) × (o ≡ unknown n.at)
+
+get_last : (ns : List Name) (m : Name) (j : ℕ) (n : Name) → slice_get (ns ++ m ∷ []) j ≡ Some n → (slice_get ns j ≡ Some n) ⊎ (m ≡ n)
+get_last [] m zero n h = inr (some_injective h)
+get_last [] m (suc j) n h = absurd (none≢some h)
+get_last (x ∷ ns) m zero n h = inl h
+get_last (x ∷ ns) m (suc j) n h = get_last ns m j n h
+
+get_front : (ns : List Name) (m : Name) (j : ℕ) (n : Name) → slice_get ns j ≡ Some n → slice_get (ns ++ m ∷ []) j ≡ Some n
+get_front [] m j n h = absurd (none≢some h)
+get_front (x ∷ ns) m zero n h = h
+get_front (x ∷ ns) m (suc j) n h = get_front ns m j n h
+
+get_end : (ns : List Name) (m : Name) → slice_get (ns ++ m ∷ []) (length ns) ≡ Some m
+get_end [] m = refl
+get_end (x ∷ ns) m = get_end ns m
+
+unknown_last : (types ns : List Name) (m : Name) (o : Offence) → UnknownAmong types (ns ++ m ∷ []) o
+    → UnknownAmong types ns o ⊎ (is_undefined types m ≡ true) × (o ≡ unknown m.at)
+unknown_last types ns m o (j, n, h, u, e) = elim (get_last ns m j n h) [
+  | inl k ↦ inl (j, n, k, u, e)
+  | inr k ↦ inr (subst (λ m. is_undefined types m ≡ true) (sym k) u, e ∙ ap (λ m. unknown m.at) (sym k))
+]
+
+unknown_front : (types ns : List Name) (m : Name) (o : Offence) → UnknownAmong types ns o → UnknownAmong types (ns ++ m ∷ []) o
+unknown_front types ns m o (j, n, h, u, e) = (j, n, get_front ns m j n h, u, e)
+
+-- what is told of the names so far, with one name more
+pub unknown_next : (types ns : List Name) (m : Name) (f r : Option TypeFault) → Finds f (UnknownAmong types ns)
+    → MatchBool (is_undefined types m) (Added f (fault.Unknown m.at) r) (r ≡ f) → Finds r (UnknownAmong types (ns ++ m ∷ []))
+unknown_next types ns m f r h k = by_bool (is_undefined types m) refl k
+  where
+    P : Offence → Type 0
+    P = UnknownAmong types ns
+
+    Q : Offence → Type 0
+    Q = λ o. o ≡ unknown m.at
+
+    W : Offence → Type 0
+    W = UnknownAmong types (ns ++ m ∷ [])
+
+    to : is_undefined types m ≡ true → (o : Offence) → P o ⊎ (o ≡ unknown m.at) → W o
+    to u o (inl p) = unknown_front types ns m o p
+    to u o (inr e) = (length ns, m, get_end ns m, u, e)
+
+    back : (o : Offence) → W o → P o ⊎ (o ≡ unknown m.at)
+    back o w = elim (unknown_last types ns m o w) [ inl p ↦ inl p | inr q ↦ inr q.1 ]
+
+    back_known : is_undefined types m ≡ false → (o : Offence) → W o → P o
+    back_known u o w = elim (unknown_last types ns m o w) [ inl p ↦ p | inr q ↦ absurd (true≢false (sym q.0 ∙ u)) ]
+
+    by_bool : (b : Bool) → is_undefined types m ≡ b → MatchBool b (Added f (fault.Unknown m.at) r) (r ≡ f) → Finds r W
+    by_bool true u a = finds_same r (Either P Q) W (to u) back (finds_added f (fault.Unknown m.at) r P Q h (unknown_told m.at) a)
+    by_bool false u e = subst (λ r. Finds r W) (sym e) (finds_same f P W (unknown_front types ns m) (back_known u) h)
+
+-- the types of the declarations so far, with one declaration more
+pub used_next : (decls : List Decl) (i : ℕ) (d : Decl) → i < length decls → d ≡ get_or decls i d → types_used (take (i + 1) decls) ≡ types_used (take i decls) ++ d.ty ∷ []
+used_next decls i d h e = ap types_used (passed_is decls i d h e) ∙ map-append (λ d. d.ty) (take i decls) (d ∷ [])
+
+-- ---- names that stand before already
+
+-- the texts that stand before, the last one first
+abbrev pub seen : List (List ℕ) → List Name → List (List ℕ)
+seen xs [] = xs
+seen xs (n ∷ ns) = seen (n.text ∷ xs) ns
+
+pub seen_next : (xs : List (List ℕ)) (ns : List Name) (m : Name) → seen xs (ns ++ m ∷ []) ≡ m.text ∷ seen xs ns
+seen_next xs [] m = refl
+seen_next xs (n ∷ ns) m = seen_next (n.text ∷ xs) ns m
+
+-- a name repeats one before it
+abbrev pub RepeatsAmong : List (List ℕ) → List Name → Offence → Type 0
+RepeatsAmong xs ns o = (at : ℕ) × (o ≡ twice at) × Repeats xs ns at
+
+repeats_last : (xs : List (List ℕ)) (ns : List Name) (m : Name) (at : ℕ) → Repeats xs (ns ++ m ∷ []) at
+    → Repeats xs ns at ⊎ (is_among m.text (seen xs ns) ≡ true) × (at ≡ m.at)
+repeats_last xs [] m at (here h) = inr (h, refl)
+repeats_last xs [] m at (behind r) = elim r [ ]
+repeats_last xs (n ∷ ns) m at (here h) = inl (here h)
+repeats_last xs (n ∷ ns) m at (behind r) = elim (repeats_last (n.text ∷ xs) ns m at r) [ inl k ↦ inl (behind k) | inr k ↦ inr k ]
+
+repeats_front : (xs : List (List ℕ)) (ns : List Name) (m : Name) (at : ℕ) → Repeats xs ns at → Repeats xs (ns ++ m ∷ []) at
+repeats_front xs [] m at r = elim r [ ]
+repeats_front xs (n ∷ ns) m at (here h) = here h
+repeats_front xs (n ∷ ns) m at (behind r) = behind (repeats_front (n.text ∷ xs) ns m at r)
+
+repeats_end : (xs : List (List ℕ)) (ns : List Name) (m : Name) → is_among m.text (seen xs ns) ≡ true → Repeats xs (ns ++ m ∷ []) m.at
+repeats_end xs [] m h = here h
+repeats_end xs (n ∷ ns) m h = behind (repeats_end (n.text ∷ xs) ns m h)
+
+-- what is told of the names so far, with one name more
+pub repeats_next : (xs : List (List ℕ)) (ns : List Name) (m : Name) (f r : Option TypeFault) → Finds f (RepeatsAmong xs ns)
+    → MatchBool (is_among m.text (seen xs ns)) (Added f (fault.Twice m.at) r) (r ≡ f) → Finds r (RepeatsAmong xs (ns ++ m ∷ []))
+repeats_next xs ns m f r h k = by_bool (is_among m.text (seen xs ns)) refl k
+  where
+    P : Offence → Type 0
+    P = RepeatsAmong xs ns
+
+    Q : Offence → Type 0
+    Q = λ o. o ≡ twice m.at
+
+    W : Offence → Type 0
+    W = RepeatsAmong xs (ns ++ m ∷ [])
+
+    front : (o : Offence) → P o → W o
+    front o (at, e, p) = (at, e, repeats_front xs ns m at p)
+
+    to : is_among m.text (seen xs ns) ≡ true → (o : Offence) → P o ⊎ (o ≡ twice m.at) → W o
+    to u o (inl p) = front o p
+    to u o (inr e) = (m.at, e, repeats_end xs ns m u)
+
+    back : (o : Offence) → W o → P o ⊎ (o ≡ twice m.at)
+    back o (at, e, w) = elim (repeats_last xs ns m at w) [ inl p ↦ inl (at, e, p) | inr q ↦ inr (e ∙ ap twice q.1) ]
+
+    back_new : is_among m.text (seen xs ns) ≡ false → (o : Offence) → W o → P o
+    back_new u o (at, e, w) = elim (repeats_last xs ns m at w) [ inl p ↦ (at, e, p) | inr q ↦ absurd (true≢false (sym q.0 ∙ u)) ]
+
+    by_bool : (b : Bool) → is_among m.text (seen xs ns) ≡ b → MatchBool b (Added f (fault.Twice m.at) r) (r ≡ f) → Finds r W
+    by_bool true u a = finds_same r (Either P Q) W (to u) back (finds_added f (fault.Twice m.at) r P Q h (twice_told m.at) a)
+    by_bool false u e = subst (λ r. Finds r W) (sym e) (finds_same f P W front (back_new u) h)
+
+pub none_repeats : (xs : List (List ℕ)) (o : Offence) → RepeatsAmong xs [] o → ⊥
+none_repeats xs o (at, e, r) = elim r [ ]
+
+or_put : (b s r : Bool) → (cond b true s || r) ≡ (s || (b || r))
+or_put true true r = refl
+or_put true false r = refl
+or_put false true r = refl
+or_put false false r = refl
+
+or_same : (b s : Bool) → (b || s) ≡ cond b true s
+or_same true s = refl
+or_same false s = refl
+
+or_false : (b : Bool) → (b || false) ≡ b
+or_false true = refl
+or_false false = refl
+
+-- a set of texts, of which one more is put in
+pub put_next : (x : List ℕ) (texts : List (List ℕ)) (i : ℕ) (t : List ℕ) (old new all : Bool) → i < length texts → t ≡ get_or texts i t
+    → new ≡ cond (bytes_eq t x) true old → (old || is_among x (drop i texts)) ≡ all → (new || is_among x (drop (i + 1) texts)) ≡ all
+put_next x texts i t old new all h e n p =
+    ap (λ b. b || is_among x (drop (i + 1) texts)) n
+    ∙ (or_put (bytes_eq t x) old (is_among x (drop (i + 1) texts)) ∙ (sym (ap (λ ts. old || is_among x ts) (rest_is texts i t h e)) ∙ p))
+
+pub all_put : (x : List ℕ) (texts : List (List ℕ)) (made all : Bool) → (made || is_among x (drop (length texts) texts)) ≡ all → made ≡ all
+all_put x texts made all h = sym (or_false made) ∙ (sym (ap (λ ts. made || is_among x ts) (drop-length texts)) ∙ h)
+
+-- the text of the name at hand is put among those that stand before
+pub seen_put : (x : List ℕ) (xs : List (List ℕ)) (ns : List Name) (i : ℕ) (n : Name) (old new : Bool) → i < length ns → n ≡ get_or ns i n
+    → new ≡ cond (bytes_eq n.text x) true old → old ≡ is_among x (seen xs (take i ns)) → new ≡ is_among x (seen xs (take (i + 1) ns))
+seen_put x xs ns i n old new h e p q =
+    p ∙ (ap (cond (bytes_eq n.text x) true) q
+    ∙ (sym (or_same (bytes_eq n.text x) (is_among x (seen xs (take i ns)))) ∙ sym (ap (λ ms. is_among x (seen xs ms)) (passed_is ns i n h e) ∙ ap (is_among x) (seen_next xs (take i ns) n))))

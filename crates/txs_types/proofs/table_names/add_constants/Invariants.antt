@@ -1,0 +1,10 @@
+use Rattle.std.proofs.Common.{◌≡◌, ◌++◌, map, drop}
+use Rattle.txs_terms.specs.View.{constant_of}
+use Rattle.txs_types.specs.Names.{constant_globals}
+use Rattle.txs_types.specs.View.{globals_of}
+use Rattle.txs_types.proofs.table_names.add_constants.Given as goal
+
+abbrev pub invariant-loop-constant : goal.invariant-loop-constant
+invariant-loop-constant l =
+    globals_of l.list ++ constant_globals l.place (map constant_of (drop l.constant-index l.constants))
+    ≡ globals_of l.initial.list ++ constant_globals 0 (map constant_of l.constants)

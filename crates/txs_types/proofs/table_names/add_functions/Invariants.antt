@@ -1,0 +1,10 @@
+use Rattle.std.proofs.Common.{◌≡◌, ◌++◌, map, drop}
+use Rattle.txs_terms.specs.View.{function_of}
+use Rattle.txs_types.specs.Names.{function_globals}
+use Rattle.txs_types.specs.View.{globals_of}
+use Rattle.txs_types.proofs.table_names.add_functions.Given as goal
+
+abbrev pub invariant-loop-function : goal.invariant-loop-function
+invariant-loop-function l =
+    globals_of l.list ++ function_globals l.place (map function_of (drop l.function-index l.functions))
+    ≡ globals_of l.initial.list ++ function_globals 0 (map function_of l.functions)

@@ -1,0 +1,10 @@
+use Rattle.std.proofs.Common.{◌≡◌, ◌++◌, drop}
+use Rattle.txs_values.specs.TableView.{table_of}
+use Rattle.txs_types.specs.Names.{table_globals}
+use Rattle.txs_types.specs.View.{globals_of}
+use Rattle.txs_types.proofs.table_names.add_types.Given as goal
+
+abbrev pub invariant-loop-def : goal.invariant-loop-def
+invariant-loop-def l =
+    globals_of l.list ++ table_globals l.place l.first (table_of (drop l.def-index l.types))
+    ≡ globals_of l.initial.list ++ table_globals 0 0 (table_of l.types)
