@@ -11,3 +11,4 @@ mod Tables
 mod Distinct
 mod Defined
 mod Accepted
+mod Deciding

@@ -1,12 +1,18 @@
 //! The types of expressions and definitions: what a tree means at a type, and what offends in it.
 #![tactic(auto)]
 
+mod bodies;
 mod declarations;
+mod definitions;
 mod expression;
 mod fault;
 mod file;
+mod file_names;
+mod file_types;
+mod least;
 mod meaning;
 mod names;
+mod offences;
 mod query;
 mod scope;
 mod typed;
