@@ -12,3 +12,10 @@ mod Distinct
 mod Defined
 mod Accepted
 mod Deciding
+mod Gathering
+mod Collecting
+mod Offending
+mod FileParts
+mod FileBodies
+mod FileJudged
+mod FileSafe

@@ -28,7 +28,9 @@ fn fault_in_names(alloc: Global, types: &[Name], file: &File) -> Result<Option<T
     let of_name = twice_name(alloc, defs)?;
     let of_parameter = twice_parameter(alloc, defs)?;
     let unknown = unknown_type(types, defs);
-    Ok(least(least(of_type, of_name), least(of_parameter, unknown)))
+    let twice = least(of_type, of_name);
+    let other = least(of_parameter, unknown);
+    Ok(least(twice, other))
 }
 
 fn fault_outside_bodies(
@@ -58,7 +60,8 @@ pub fn type_defs(alloc: Global, file: &File) -> Result<Defs, TypeFault>
     let mut scope = scope_of_file(alloc, types.as_slice(), file)?;
     let functions = functions_of(alloc, &mut scope, types.as_slice(), file)?;
     let constants = constants_of(alloc, &mut scope, types.as_slice(), file)?;
-    match least(least(outside, functions.fault), constants.fault) {
+    let without = least(outside, functions.fault);
+    match least(without, constants.fault) {
         Some(fault) => Err(fault),
         None => {
             let table = table_of(alloc, types.as_slice(), file.defs.as_slice())?;

@@ -67,7 +67,7 @@ fn has_name(text: &Text, types: &[Name]) -> bool
     ensures { result ≡ files.is_among text.now (map (λ x. x.text) types.now) }
 {
     for ty in types {
-        if ty.text.is(text) {
+        if is_text(text, ty.text.as_str()) {
             return true;
         }
     }

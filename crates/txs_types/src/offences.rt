@@ -1,4 +1,4 @@
-ghost use Rattle.std.specs.Prelude.{◌≡◌, IfOk, [], ◌∷◌};
+ghost use Rattle.std.specs.Prelude.{◌≡◌, IfOk, IsTrue, ◌↔◌, ◌⊎◌, ◌<◌, [], ◌∷◌};
 ghost use Rattle.txs_types.specs.Files as files;
 ghost use Rattle.txs_types.specs.Told.{Finds};
 ghost use Rattle.txs_types.specs.Parts.{Among, AmongDefs, IsTwice, AnyUndefined, TwiceIn, UnknownIn, BadDefault};
@@ -126,6 +126,12 @@ const SIZE_LIMIT: u64 = 16_384;
 
 const HEIGHT_LIMIT: u64 = 1_000;
 
+fn is_big(extent: Extent) -> bool
+    ensures { IsTrue result ↔ ((16384 < extent.size) ⊎ (1000 < extent.height)) }
+{
+    extent.size > SIZE_LIMIT || extent.height > HEIGHT_LIMIT
+}
+
 fn bad_default(
     alloc: Global,
     table: &TypeTable,
@@ -137,7 +143,7 @@ fn bad_default(
     match default_extent(alloc, table, Ty::Named(number))? {
         None => Ok(Some(TypeFault::EmptyType { at: name.at })),
         Some(extent) => {
-            if extent.size > SIZE_LIMIT || extent.height > HEIGHT_LIMIT {
+            if is_big(extent) {
                 Ok(Some(TypeFault::BigType { at: name.at }))
             } else {
                 Ok(None)

@@ -1,0 +1,8 @@
+use Rattle.std.proofs.Common.{subst, sym}
+use Rattle.txs_syntax.specs.declared.file.Def.{Def}
+use Rattle.txs_types.specs.Collected.{FunctionIn}
+use Rattle.txs_types.proofs.FileBodies.{no_function_in}
+use Rattle.txs_types.proofs.bodies.function_in.Goals as goal
+
+pub returns-in_default : goal.returns-in_default
+returns-in_default c = record { judged = no_function_in c.args.file.now c.args.def.now c.new.result c.new.ensures ?; scope = c.requires.scope }
