@@ -69,7 +69,11 @@ functions_meant_append file ds es fs gs hs e p q = record {
 none_in_function : {file : File} {ds : List Def} {fs : List Function} → AreFunctions file ds fs → (d : Def) → ds ≡ d ∷ [] → (o : Offence) → InFunction file d o → ⊥
 none_in_function no_function d e o h = cc
 none_in_function {file = file} (a_function {x = x} {r = r} {ps = ps} {a = a} {e = e} {t = t} m rest) (def.TypeDef y cs) q o h = h
-none_in_function {file = file} (a_function {x = x} {r = r} {ps = ps} {a = a} {e = e} {t = t} m rest) (def.FuncDef y qs s b) q o h = by cc cc cc
+none_in_function {file = file} (a_function {x = x} {r = r} {ps = ps} {a = a} {e = e} {t = t} m rest) (def.FuncDef y qs s b) q o h =
+    let i : ps ≡ qs = cc in
+    let j : r ≡ s = cc in
+    let k : a ≡ b = cc in
+    by i j k
   where
     by : ps ≡ qs → r ≡ s → a ≡ b → ⊥
     by i j k = not_both (scope_in file (variables_of (type_names file.defs) qs)) (Some (type_of (type_names file.defs) s.text)) b e t o
@@ -137,7 +141,10 @@ none_in_constant : {file : File} {ds : List Def} {ks : List Constant} → AreCon
 none_in_constant no_constant d e o h = cc
 none_in_constant (a_constant m rest) (def.TypeDef y cs) q o h = h
 none_in_constant (a_constant m rest) (def.FuncDef y qs s b) q o h = h
-none_in_constant {file = file} (a_constant {x = x} {n = n} {a = a} {e = e} {t = t} m rest) (def.ConstDef y s b) q o h = by cc cc
+none_in_constant {file = file} (a_constant {x = x} {n = n} {a = a} {e = e} {t = t} m rest) (def.ConstDef y s b) q o h =
+    let j : n ≡ s = cc in
+    let k : a ≡ b = cc in
+    by j k
   where
     by : n ≡ s → a ≡ b → ⊥
     by j k = not_both (scope_in file []) (Some (type_of (type_names file.defs) s.text)) b e t o
