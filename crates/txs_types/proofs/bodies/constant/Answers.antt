@@ -1,4 +1,3 @@
-use Rattle.std.proofs.Common.{refl}
 use Rattle.txs_values.specs.View.{ty_of}
 use Rattle.txs_types.proofs.FileJudged.{judged_constant}
 use Rattle.txs_types.proofs.bodies.constant.Goals as goal

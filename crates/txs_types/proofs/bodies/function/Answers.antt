@@ -1,4 +1,4 @@
-use Rattle.std.proofs.Common.{refl, ◌∙◌, ap, sym, map}
+use Rattle.std.proofs.Common.{refl, ◌∙◌, ap, map}
 use Rattle.txs_values.specs.View.{ty_of}
 use Rattle.txs_values.specs.Value.{field_types}
 use Rattle.txs_values.specs.TableView.{field_of}

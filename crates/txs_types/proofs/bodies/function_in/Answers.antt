@@ -1,6 +1,3 @@
-use Rattle.std.proofs.Common.{subst, sym}
-use Rattle.txs_syntax.specs.declared.file.Def.{Def}
-use Rattle.txs_types.specs.Collected.{FunctionIn}
 use Rattle.txs_types.proofs.FileBodies.{no_function_in}
 use Rattle.txs_types.proofs.bodies.function_in.Goals as goal
 

@@ -1,4 +1,4 @@
-use Rattle.std.proofs.Common.{refl, ◌∷◌, [], List}
+use Rattle.std.proofs.Common.{refl, ◌∷◌, []}
 use Rattle.txs_types.specs.Files as files
 use Rattle.txs_types.specs.View.{global_of, globals_of}
 use Rattle.txs_types.specs.Counted.{counts_after, globals_from}

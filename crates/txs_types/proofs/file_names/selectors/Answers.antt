@@ -1,4 +1,4 @@
-use Rattle.std.proofs.Common.{refl, map, ap, suc, ℕ, ◌∷◌, [], List}
+use Rattle.std.proofs.Common.{refl, map, ap, suc, ◌∷◌, [], List}
 use Rattle.txs_values.specs.View.{ty_of}
 use Rattle.txs_values.specs.TableView.{field_of}
 use Rattle.txs_values.specs.declared.table.FieldDef.{FieldDef}

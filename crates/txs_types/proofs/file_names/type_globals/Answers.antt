@@ -1,4 +1,4 @@
-use Rattle.std.proofs.Common.{refl, map, ap, suc, ℕ, ◌∷◌, [], List}
+use Rattle.std.proofs.Common.{refl, suc, ◌∷◌, [], List}
 use Rattle.txs_values.specs.TableView.{cons_of, conses_of}
 use Rattle.txs_values.specs.declared.table.ConsDef.{ConsDef}
 use Rattle.txs_types.specs.Names as names
