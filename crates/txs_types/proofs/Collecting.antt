@@ -1,15 +1,14 @@
 -- What a list of definitions gives is what its first gives, and what the others do.
-use Rattle.std.proofs.Common.{◌≡◌, ◌+◌, ℕ, suc, Bool, true, false, ◌||◌, cond, bytes_eq, ap, sym, ◌∙◌, List, [], ◌∷◌, ◌++◌, length, map, refl}
+use Rattle.std.proofs.Common.{◌≡◌, ◌+◌, ℕ, suc, Bool, true, false, ◌||◌, ap, sym, ◌∙◌, List, [], ◌∷◌, ◌++◌, refl}
 use Rattle.std.proofs.lemmas.List.{append_assoc, append-nil}
-use Rattle.txs_values.specs.Value.{Field, Table, Constructor, field_types}
+use Rattle.txs_values.specs.Value.{Constructor, field_types}
 use Rattle.txs_syntax.specs.declared.ast.Name.{Name}
 use Rattle.txs_syntax.specs.declared.file.Def.{Def}
 use Rattle.txs_syntax.specs.declared.file.Def.TheVariants as def
 use Rattle.txs_syntax.specs.declared.file.ConDef.{ConDef}
-use Rattle.txs_syntax.specs.declared.file.Decl.{Decl}
 use Rattle.txs_types.specs.declared.file_names.Counts.{Counts}
-use Rattle.txs_types.specs.Names.{Global, constructor_globals, selectors, test_name, named_constructor, named_test}
-use Rattle.txs_types.specs.Files.{type_names, names_in, constructor_names, defined_names, table_in, excused, types_used, types_of_fields, is_among, is_undefined, any_undefined, constructors_of}
+use Rattle.txs_types.specs.Names.{constructor_globals, selectors, test_name, named_constructor, named_test}
+use Rattle.txs_types.specs.Files.{type_names, names_in, constructor_names, defined_names, table_in, excused, types_used, types_of_fields, is_undefined, any_undefined, constructors_of}
 use Rattle.txs_types.specs.Counted.{counts_after, globals_from}
 
 pub split_type_names : (d : Def) (ds : List Def) → type_names (d ∷ ds) ≡ type_names (d ∷ []) ++ type_names ds

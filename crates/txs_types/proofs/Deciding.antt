@@ -8,7 +8,7 @@ use Rattle.txs_types.specs.declared.fault.TypeFault.TheVariants as fault
 use Rattle.txs_types.specs.Offends.{Offence, twice, unknown, arity, mismatch, empty_type, big_type}
 use Rattle.txs_types.specs.Files.{place, rank, NotAfter, Decides}
 use Rattle.txs_types.specs.Answer.{Told}
-use Rattle.txs_types.specs.Told.{order, IsBefore, Lesser, memory_first, left_first, right_first, Finds}
+use Rattle.txs_types.specs.Told.{order, Lesser, memory_first, left_first, right_first, Finds}
 use Rattle.txs_types.specs.Parts.{Least, Among}
 use Rattle.txs_types.proofs.Unique.{some_injective}
 use Rattle.txs_types.proofs.NotBoth.{none≢some}

@@ -1,12 +1,9 @@
 -- The bodies of a file: what is judged of each, and what is collected of them.
-use Rattle.std.proofs.Common.{◌≡◌, ◌⊎◌, inl, inr, ◌+◌, ◌<◌, ◌≤◌, ℕ, zero, suc, ap, sym, subst, ◌∙◌, List, [], ◌∷◌, ◌++◌, length, map, take, get_or, slice_get, Option, Some, None, Result, Ok, Err, refl}
+use Rattle.std.proofs.Common.{◌≡◌, ◌+◌, ◌<◌, ◌≤◌, ℕ, ap, sym, subst, ◌∙◌, List, [], ◌∷◌, ◌++◌, length, map, take, get_or, Some, None, Result, Ok, Err, refl}
 use Rattle.std.proofs.lemmas.List.{map-append, take_all}
-use Rattle.txs_values.specs.Value.{Ty, Field, field_types}
-use Rattle.txs_values.specs.View.{ty_of}
 use Rattle.txs_values.specs.TableView.{field_of}
-use Rattle.txs_terms.specs.Expr.{Expr}
 use Rattle.txs_terms.specs.Defs.{Function, Constant}
-use Rattle.txs_terms.specs.View.{expr_of, function_of, constant_of}
+use Rattle.txs_terms.specs.View.{function_of, constant_of}
 use Rattle.txs_terms.specs.declared.defs.FunctionDef.{FunctionDef}
 use Rattle.txs_terms.specs.declared.defs.ConstantDef.{ConstantDef}
 use Rattle.txs_syntax.specs.declared.ast.Name.{Name}
@@ -14,22 +11,21 @@ use Rattle.txs_syntax.specs.declared.ast.Ast.{Ast}
 use Rattle.txs_syntax.specs.declared.file.File.{File}
 use Rattle.txs_syntax.specs.declared.file.Def.{Def}
 use Rattle.txs_syntax.specs.declared.file.Def.TheVariants as def
-use Rattle.txs_syntax.specs.declared.file.ConDef.{ConDef}
 use Rattle.txs_syntax.specs.declared.file.DeclList.{DeclList}
 use Rattle.txs_types.specs.declared.fault.TypeFault.{TypeFault}
 use Rattle.txs_types.specs.declared.scope.Scope as rust_scope
 use Rattle.txs_types.specs.declared.bodies.Functions as functions
 use Rattle.txs_types.specs.declared.bodies.Constants as constants
 use Rattle.txs_types.specs.Names.{Scope, Global, Variable, built_ins}
-use Rattle.txs_types.specs.Elaborates.{Elaborates, HasInts}
-use Rattle.txs_types.specs.Offends.{Offence, Offends}
+use Rattle.txs_types.specs.Elaborates.{Elaborates}
+use Rattle.txs_types.specs.Offends.{Offence}
 use Rattle.txs_types.specs.Files.{type_names, type_of, variables_of, globals_in, scope_in, AreFunctions, no_function, a_function, AreFunctions.type_between, constant_between, AreConstants, no_constant, a_constant, AreConstants.type_between as type_by, function_between}
 use Rattle.txs_types.specs.Told.{Finds}
 use Rattle.txs_types.specs.View.{scope_of}
-use Rattle.txs_types.specs.Parts.{Least, AmongDefs, InFunction, InConstant, FunctionsHaveInts, ConstantsHaveInts, IsOfFile}
+use Rattle.txs_types.specs.Parts.{AmongDefs, InFunction, InConstant, FunctionsHaveInts, ConstantsHaveInts, IsOfFile}
 use Rattle.txs_types.specs.Collected.{FunctionsMeant, ConstantsMeant, FunctionIn, ConstantIn, FunctionAdded, ConstantAdded, FunctionsFound, ConstantsFound}
 use Rattle.txs_types.proofs.NotBoth.{none≢some, not_both}
-use Rattle.txs_types.proofs.Deciding.{least_none, least_left, least_right, among_least, among_none, taken_more}
+use Rattle.txs_types.proofs.Deciding.{least_none, least_right, among_least, among_none, taken_more}
 
 -- ---- the scope
 

@@ -1,5 +1,5 @@
 -- The function and the constant that are made of a judged body.
-use Rattle.std.proofs.Common.{◌≡◌, ℕ, ap, sym, subst, ◌∙◌, List, [], ◌∷◌, ◌++◌, map, Option, Some, refl}
+use Rattle.std.proofs.Common.{◌≡◌, ℕ, ap, sym, subst, ◌∙◌, List, [], ◌∷◌, ◌++◌, map, Some}
 use Rattle.txs_values.specs.declared.ty.Ty as rust_ty
 use Rattle.txs_values.specs.declared.table.FieldDef.{FieldDef}
 use Rattle.txs_values.specs.Value.{Ty, field_types}

@@ -1,5 +1,5 @@
 -- The offences of a file are those of its parts.
-use Rattle.std.proofs.Common.{◌≡◌, ◌⊎◌, inl, inr, ℕ, zero, suc, ap, sym, subst, ◌∙◌, List, [], ◌∷◌, slice_get, Option, Some, None, refl}
+use Rattle.std.proofs.Common.{◌≡◌, ◌⊎◌, inl, inr, ℕ, zero, suc, ap, sym, subst, ◌∙◌, List, [], ◌∷◌, slice_get, Option, Some, refl}
 use Rattle.txs_values.specs.Value.{Table}
 use Rattle.txs_syntax.specs.declared.ast.Name.{Name}
 use Rattle.txs_syntax.specs.declared.ast.Ast.{Ast}
@@ -9,8 +9,8 @@ use Rattle.txs_syntax.specs.declared.file.Def.TheVariants as def
 use Rattle.txs_syntax.specs.declared.file.DeclList.{DeclList}
 use Rattle.txs_types.specs.declared.fault.TypeFault.{TypeFault}
 use Rattle.txs_types.specs.Elaborates.{HasInts}
-use Rattle.txs_types.specs.Offends.{Offence, twice, unknown, empty_type, big_type, Offends}
-use Rattle.txs_types.specs.Files.{type_names, defined_names, names_in, built_in_types, built_in_names, excused, Repeats, type_of, variables_of, scope_in, FileOffends, twice_type, twice_name, twice_parameter, unknown_type, no_value, big_default, in_function, in_constant}
+use Rattle.txs_types.specs.Offends.{Offence}
+use Rattle.txs_types.specs.Files.{type_names, defined_names, built_in_types, built_in_names, excused, FileOffends, twice_type, twice_name, twice_parameter, unknown_type, no_value, big_default, in_function, in_constant}
 use Rattle.txs_types.specs.Told.{Finds}
 use Rattle.txs_types.specs.Laws.{FileHasInts}
 use Rattle.txs_types.specs.Parts.{Least, Among, AmongDefs, IsTwice, TwiceIn, UnknownIn, BadDefault, none, big, InFunction, InConstant, FunctionsHaveInts, ConstantsHaveInts, InNames, OutsideBodies, InFile}

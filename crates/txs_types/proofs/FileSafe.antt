@@ -1,9 +1,9 @@
 -- The definitions that a file without a fault means: they are well typed, and their bodies are safe.
-use Rattle.std.proofs.Common.{◌≡◌, ◌≢◌, ℕ, ap, sym, subst, ◌∙◌, List, [], map, slice_get, option_map, Option, Some, None, refl}
+use Rattle.std.proofs.Common.{◌≡◌, ap, sym, subst, ◌∙◌, List, [], map, slice_get, option_map, Option, Some, None}
 use Rattle.std.proofs.lemmas.Option.{slice_get-map}
-use Rattle.txs_values.specs.Value.{Ty, Value, HasType, HaveTypes, Table}
+use Rattle.txs_values.specs.Value.{Ty, Value, HaveTypes, Table}
 use Rattle.txs_terms.specs.Expr.{Expr, put, filled}
-use Rattle.txs_terms.specs.Eval.{eval, got, bad, wrong, height_limit}
+use Rattle.txs_terms.specs.Eval.{height_limit}
 use Rattle.txs_terms.specs.Typed.{Of, Signature}
 use Rattle.txs_terms.specs.Defs.{Function, Constant, Definitions, bodies, signatures_of, AreDefined}
 use Rattle.txs_terms.proofs.typing.Putting.{put_typed, filled_all}

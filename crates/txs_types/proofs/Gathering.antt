@@ -1,5 +1,5 @@
 -- A loop that gathers what each item of a list gives, and one that seeks an item.
-use Rattle.std.proofs.Common.{◌≡◌, ◌+◌, ◌<◌, ◌≤◌, ℕ, zero, suc, Bool, true, false, ◌||◌, ap, sym, ◌∙◌, List, [], ◌∷◌, ◌++◌, length, map, drop, get_or, refl}
+use Rattle.std.proofs.Common.{◌≡◌, ◌+◌, ◌<◌, ◌≤◌, ℕ, Bool, true, false, ◌||◌, ap, sym, ◌∙◌, List, [], ◌∷◌, ◌++◌, length, map, drop, get_or, refl}
 use Rattle.std.proofs.lemmas.List.{append_assoc, append-nil, map-append, at_drop_more, at_drop_all}
 
 -- the list that is left begins with the item

@@ -1,5 +1,5 @@
 -- The offences of type names and of defaults.
-use Rattle.std.proofs.Common.{◌≡◌, ◌⊎◌, inl, inr, ◌<◌, ◌≤◌, ◌+◌, ℕ, zero, suc, Bool, true, false, ap, sym, subst, ◌∙◌, List, [], ◌∷◌, ◌++◌, length, take, get_or, slice_get, option_map, Option, Some, None, refl, arith, true≢false, min}
+use Rattle.std.proofs.Common.{◌≡◌, ◌⊎◌, inl, inr, ◌<◌, ◌+◌, ℕ, zero, suc, true, false, ap, sym, subst, ◌∙◌, List, [], ◌∷◌, ◌++◌, length, take, get_or, slice_get, option_map, Option, Some, None, refl, arith, true≢false}
 use Rattle.txs_values.specs.Value.{Value, Table, named, size, height, value_size_limit, value_height_limit}
 use Rattle.txs_values.specs.Default.{default_if}
 use Rattle.txs_values.specs.Choices.{extent_of}

@@ -1,5 +1,5 @@
 -- Within the crate: what is collected of the bodies of a file.
-use Rattle.std.specs.Prelude.{◌≡◌, ℕ, List, [], ◌∷◌, ◌++◌, map, Option, Some, None, Result, Ok, Err}
+use Rattle.std.specs.Prelude.{◌≡◌, List, [], ◌∷◌, ◌++◌, map, Some, None, Result, Ok, Err}
 use Rattle.txs_syntax.specs.declared.file.File.{File}
 use Rattle.txs_syntax.specs.declared.file.Def.{Def}
 use Rattle.txs_terms.specs.View.{function_of, constant_of}
@@ -8,7 +8,6 @@ use Rattle.txs_terms.specs.declared.defs.ConstantDef.{ConstantDef}
 use Rattle.txs_types.specs.declared.fault.TypeFault.{TypeFault}
 use Rattle.txs_types.specs.declared.bodies.Functions as functions
 use Rattle.txs_types.specs.declared.bodies.Constants as constants
-use Rattle.txs_types.specs.Offends.{Offence}
 use Rattle.txs_types.specs.Files.{AreFunctions, AreConstants}
 use Rattle.txs_types.specs.Told.{Finds}
 use Rattle.txs_types.specs.Answer.{Told}

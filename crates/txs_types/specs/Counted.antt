@@ -1,5 +1,5 @@
 -- Within the crate: the names of definitions behind others.
-use Rattle.std.specs.Prelude.{ℕ, suc, ◌+◌, List, length}
+use Rattle.std.specs.Prelude.{suc, ◌+◌, List, length}
 use Rattle.txs_syntax.specs.declared.ast.Name.{Name}
 use Rattle.txs_syntax.specs.declared.file.Def.{Def}
 use Rattle.txs_syntax.specs.declared.file.Def.TheVariants as def

@@ -1,5 +1,5 @@
 -- Within the crate: the offences of a file by the parts that they stand in.
-use Rattle.std.specs.Prelude.{◌≡◌, ◌⊎◌, ◌<◌, ℕ, suc, ◌+◌, true, List, [], ◌∷◌, ◌++◌, length, map, Option, Some, None, slice_get}
+use Rattle.std.specs.Prelude.{◌≡◌, ◌⊎◌, ◌<◌, ℕ, ◌+◌, true, List, [], ◌∷◌, ◌++◌, length, map, Option, Some, None, slice_get}
 use Rattle.txs_values.specs.Value.{Value, Table, named, size, height, value_size_limit, value_height_limit}
 use Rattle.txs_values.specs.TableView.{field_of}
 use Rattle.txs_values.specs.Default.{default_if}
@@ -9,7 +9,7 @@ use Rattle.txs_syntax.specs.declared.file.Def.{Def}
 use Rattle.txs_syntax.specs.declared.file.Def.TheVariants as def
 use Rattle.txs_types.specs.declared.fault.TypeFault.{TypeFault}
 use Rattle.txs_types.specs.declared.scope.Scope as rust_scope
-use Rattle.txs_types.specs.Names.{Global, built_ins}
+use Rattle.txs_types.specs.Names.{built_ins}
 use Rattle.txs_types.specs.Elaborates.{HasInts}
 use Rattle.txs_types.specs.Offends.{Offence, twice, unknown, empty_type, big_type, Offends}
 use Rattle.txs_types.specs.Files.{type_names, type_of, variables_of, types_named, names_in, defined_names, is_undefined, built_in_types, built_in_names, excused, scope_in, globals_in, Repeats}

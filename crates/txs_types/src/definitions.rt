@@ -1,4 +1,4 @@
-ghost use Rattle.std.specs.Prelude.{◌≡◌, IfOk, [], ◌∷◌, ◌++◌, map};
+ghost use Rattle.std.specs.Prelude.{◌≡◌, IfOk, [], ◌∷◌};
 ghost use Rattle.txs_types.specs.Names as names;
 ghost use Rattle.txs_types.specs.Files as files;
 

@@ -1,11 +1,11 @@
-ghost use Rattle.std.specs.Prelude.{◌≡◌, IfOk, OnOk, ℕ, suc, ◌+◌, [], ◌∷◌, ◌++◌, length, map};
+ghost use Rattle.std.specs.Prelude.{◌≡◌, IfOk, OnOk, suc, ◌+◌, [], ◌∷◌, ◌++◌, map};
 ghost use Rattle.txs_values.specs.View.{ty_of};
 ghost use Rattle.txs_values.specs.Value.{field_types};
 ghost use Rattle.txs_values.specs.TableView.{field_of, cons_of, conses_of};
 ghost use Rattle.txs_types.specs.Names as names;
 ghost use Rattle.txs_types.specs.Names.{named_function, named_constant};
 ghost use Rattle.txs_types.specs.Files as files;
-ghost use Rattle.txs_types.specs.View.{global_of, globals_of, meaning_of};
+ghost use Rattle.txs_types.specs.View.{globals_of, meaning_of};
 ghost use Rattle.txs_types.specs.Counted.{counts_after, globals_from};
 
 use crate::declarations::{type_of, variables_of};

@@ -2,7 +2,7 @@ use Rattle.std.proofs.Common.{refl, map, ap, suc, ◌∷◌, [], List}
 use Rattle.txs_values.specs.View.{ty_of}
 use Rattle.txs_values.specs.TableView.{field_of}
 use Rattle.txs_values.specs.declared.table.FieldDef.{FieldDef}
-use Rattle.txs_types.specs.Names.{Global, named_selector}
+use Rattle.txs_types.specs.Names.{named_selector}
 use Rattle.txs_types.specs.Names as names
 use Rattle.txs_types.specs.View.{globals_of}
 use Rattle.txs_types.proofs.Gathering.{gather_on, gather_on_end}
