@@ -1,5 +1,5 @@
 -- What a list of definitions gives is what its first gives, and what the others do.
-use Rattle.std.proofs.Common.{◌≡◌, ◌+◌, ℕ, suc, Bool, true, false, ◌||◌, ap, sym, ◌∙◌, List, [], ◌∷◌, ◌++◌, refl}
+use Rattle.std.proofs.Common.{◌≡◌, ℕ, suc, Bool, true, false, ◌||◌, ap, sym, ◌∙◌, List, [], ◌∷◌, ◌++◌, refl}
 use Rattle.std.proofs.lemmas.List.{append_assoc, append-nil}
 use Rattle.txs_values.specs.Value.{Constructor, field_types}
 use Rattle.txs_syntax.specs.declared.ast.Name.{Name}

@@ -17,7 +17,6 @@ use Rattle.txs_syntax.specs.declared.file.File.{File}
 use Rattle.txs_syntax.specs.declared.file.Def.TheVariants as def
 use Rattle.txs_syntax.specs.declared.file.DeclList.{DeclList}
 use Rattle.txs_types.specs.declared.scope.Scope as rust_scope
-use Rattle.txs_types.specs.Names.{Scope}
 use Rattle.txs_types.specs.Elaborates.{Elaborates, HasInts}
 use Rattle.txs_types.specs.Files.{type_names, type_of, variables_of, scope_in, AreFunctions, no_function, a_function, AreConstants, no_constant, a_constant}
 use Rattle.txs_types.specs.View.{scope_of}

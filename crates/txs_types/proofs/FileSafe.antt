@@ -1,5 +1,5 @@
 -- The definitions that a file without a fault means: they are well typed, and their bodies are safe.
-use Rattle.std.proofs.Common.{◌≡◌, ap, sym, subst, ◌∙◌, List, [], map, slice_get, option_map, Option, Some, None}
+use Rattle.std.proofs.Common.{◌≡◌, ap, sym, subst, ◌∙◌, List, [], option_map, Option, Some, None}
 use Rattle.std.proofs.lemmas.Option.{slice_get-map}
 use Rattle.txs_values.specs.Value.{Ty, Value, HaveTypes, Table}
 use Rattle.txs_terms.specs.Expr.{Expr, put, filled}
