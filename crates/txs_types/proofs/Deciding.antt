@@ -9,7 +9,7 @@ use Rattle.txs_types.specs.Offends.{Offence, twice, unknown, arity, mismatch, em
 use Rattle.txs_types.specs.Files.{place, rank, NotAfter, Decides}
 use Rattle.txs_types.specs.Answer.{Told}
 use Rattle.txs_types.specs.Told.{order, Lesser, memory_first, left_first, right_first, Finds}
-use Rattle.txs_types.specs.Parts.{Least, Among}
+use Rattle.txs_types.specs.Among.{Least, Among}
 use Rattle.txs_types.proofs.Unique.{some_injective}
 use Rattle.txs_types.proofs.NotBoth.{none≢some}
 

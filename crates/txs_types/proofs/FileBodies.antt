@@ -22,7 +22,7 @@ use Rattle.txs_types.specs.Offends.{Offence}
 use Rattle.txs_types.specs.Files.{type_names, type_of, variables_of, globals_in, scope_in, AreFunctions, no_function, a_function, AreFunctions.type_between, constant_between, AreConstants, no_constant, a_constant, AreConstants.type_between as type_by, function_between}
 use Rattle.txs_types.specs.Told.{Finds}
 use Rattle.txs_types.specs.View.{scope_of}
-use Rattle.txs_types.specs.Parts.{AmongDefs, InFunction, InConstant, FunctionsHaveInts, ConstantsHaveInts, IsOfFile}
+use Rattle.txs_types.specs.Among.{AmongDefs, InFunction, InConstant, FunctionsHaveInts, ConstantsHaveInts, IsOfFile}
 use Rattle.txs_types.specs.Collected.{FunctionsMeant, ConstantsMeant, FunctionIn, ConstantIn, FunctionAdded, ConstantAdded, FunctionsFound, ConstantsFound}
 use Rattle.txs_types.proofs.NotBoth.{none≢some, not_both}
 use Rattle.txs_types.proofs.Deciding.{least_none, least_right, among_least, among_none, taken_more}

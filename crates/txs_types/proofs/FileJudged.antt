@@ -20,7 +20,7 @@ use Rattle.txs_types.specs.declared.scope.Scope as rust_scope
 use Rattle.txs_types.specs.Elaborates.{Elaborates, HasInts}
 use Rattle.txs_types.specs.Files.{type_names, type_of, variables_of, scope_in, AreFunctions, no_function, a_function, AreConstants, no_constant, a_constant}
 use Rattle.txs_types.specs.View.{scope_of}
-use Rattle.txs_types.specs.Parts.{IsOfFile}
+use Rattle.txs_types.specs.Among.{IsOfFile}
 use Rattle.txs_types.specs.Collected.{FunctionsMeant, ConstantsMeant}
 use Rattle.txs_types.proofs.FileBodies.{body_scope}
 

@@ -13,7 +13,7 @@ use Rattle.txs_types.specs.Offends.{Offence}
 use Rattle.txs_types.specs.Files.{type_names, defined_names, built_in_types, built_in_names, excused, FileOffends, twice_type, twice_name, twice_parameter, unknown_type, no_value, big_default, in_function, in_constant}
 use Rattle.txs_types.specs.Told.{Finds}
 use Rattle.txs_types.specs.Laws.{FileHasInts}
-use Rattle.txs_types.specs.Parts.{Least, Among, AmongDefs, IsTwice, TwiceIn, UnknownIn, BadDefault, none, big, InFunction, InConstant, FunctionsHaveInts, ConstantsHaveInts, InNames, OutsideBodies, InFile}
+use Rattle.txs_types.specs.Among.{Least, Among, AmongDefs, IsTwice, TwiceIn, UnknownIn, BadDefault, none, big, InFunction, InConstant, FunctionsHaveInts, ConstantsHaveInts, InNames, OutsideBodies, InFile}
 use Rattle.txs_types.proofs.Unique.{some_injective}
 use Rattle.txs_types.proofs.NotBoth.{none≢some}
 use Rattle.txs_types.proofs.Deciding.{finds_same, finds_least}

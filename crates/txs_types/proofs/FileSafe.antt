@@ -20,7 +20,7 @@ use Rattle.txs_types.specs.Files.{type_names, table_in, FileOffends, IsMeant}
 use Rattle.txs_types.specs.Laws.{FileHasNames}
 use Rattle.txs_types.specs.Answer.{Told, IsSafe, AreSafe}
 use Rattle.txs_types.specs.Told.{Finds}
-use Rattle.txs_types.specs.Parts.{Least, OutsideBodies}
+use Rattle.txs_types.specs.Among.{Least, OutsideBodies}
 use Rattle.txs_types.specs.Collected.{FunctionsMeant, ConstantsMeant, FunctionsFound, ConstantsFound}
 use Rattle.txs_types.proofs.Deciding.{least_left, least_right}
 use Rattle.txs_types.proofs.Defined.{meant_is_defined}

@@ -10,7 +10,7 @@ use Rattle.txs_types.specs.declared.fault.TypeFault.{TypeFault}
 use Rattle.txs_types.specs.Offends.{Offence, unknown, empty_type, big_type}
 use Rattle.txs_types.specs.Files.{is_undefined, types_used, types_of_fields, NotAfter, Decides}
 use Rattle.txs_types.specs.Told.{Finds}
-use Rattle.txs_types.specs.Parts.{Least, AnyUndefined, BadDefault, none, big}
+use Rattle.txs_types.specs.Among.{Least, AnyUndefined, BadDefault, none, big}
 use Rattle.txs_types.proofs.Unique.{some_injective}
 use Rattle.txs_types.proofs.NotBoth.{none≢some}
 use Rattle.txs_types.proofs.Deciding.{finds_same, finds_least, taken_more}

@@ -11,7 +11,7 @@ use Rattle.txs_types.specs.declared.bodies.Constants as constants
 use Rattle.txs_types.specs.Files.{AreFunctions, AreConstants}
 use Rattle.txs_types.specs.Told.{Finds}
 use Rattle.txs_types.specs.Answer.{Told}
-use Rattle.txs_types.specs.Parts.{Least, AmongDefs, InFunction, InConstant, FunctionsHaveInts, ConstantsHaveInts}
+use Rattle.txs_types.specs.Among.{Least, AmongDefs, InFunction, InConstant, FunctionsHaveInts, ConstantsHaveInts}
 
 -- the functions that these definitions mean, and the numbers in their bodies are in the range of Int
 pub record FunctionsMeant (file : File) (ds : List Def) (fs : List FunctionDef) : Type 0 where

@@ -6,6 +6,6 @@ pub mod Laws
 pub mod Answer
 pub mod Told
 pub mod View
-pub mod Parts
+pub mod Among
 pub mod Counted
 pub mod Collected

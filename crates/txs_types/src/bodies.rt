@@ -1,7 +1,7 @@
 ghost use Rattle.std.specs.Prelude.{◌≡◌, IfOk, OnOk, length};
 ghost use Rattle.txs_syntax.specs.declared.file.Def.TheVariants as def;
 ghost use Rattle.txs_types.specs.Files as files;
-ghost use Rattle.txs_types.specs.Parts.{IsOfFile};
+ghost use Rattle.txs_types.specs.Among.{IsOfFile};
 ghost use Rattle.txs_types.specs.Collected.{FunctionIn, FunctionAdded, FunctionsFound, ConstantIn, ConstantAdded, ConstantsFound};
 
 use crate::declarations::{type_of, variables_of};

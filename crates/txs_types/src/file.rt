@@ -6,7 +6,7 @@ ghost use Rattle.txs_types.specs.Laws.{FileHasNames};
 ghost use Rattle.txs_types.specs.Offends.{Offence};
 ghost use Rattle.txs_types.specs.Answer.{Told, AreSafe};
 ghost use Rattle.txs_types.specs.Told.{Finds};
-ghost use Rattle.txs_types.specs.Parts.{InNames, OutsideBodies};
+ghost use Rattle.txs_types.specs.Among.{InNames, OutsideBodies};
 
 use crate::bodies::{constants_of, functions_of, scope_of_file};
 use crate::definitions::type_names;

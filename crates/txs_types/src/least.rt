@@ -1,4 +1,4 @@
-ghost use Rattle.txs_types.specs.Parts.{Least};
+ghost use Rattle.txs_types.specs.Among.{Least};
 
 use crate::fault::{TypeFault, lesser};
 

@@ -1,7 +1,7 @@
 ghost use Rattle.std.specs.Prelude.{◌≡◌, IfOk, IsTrue, ◌↔◌, ◌⊎◌, ◌<◌, [], ◌∷◌};
 ghost use Rattle.txs_types.specs.Files as files;
 ghost use Rattle.txs_types.specs.Told.{Finds};
-ghost use Rattle.txs_types.specs.Parts.{Among, AmongDefs, IsTwice, AnyUndefined, TwiceIn, UnknownIn, BadDefault};
+ghost use Rattle.txs_types.specs.Among.{Among, AmongDefs, IsTwice, AnyUndefined, TwiceIn, UnknownIn, BadDefault};
 
 use crate::declarations::{names_in, undefined};
 use crate::definitions::defined_names;

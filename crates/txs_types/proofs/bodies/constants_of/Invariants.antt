@@ -1,5 +1,5 @@
 use Rattle.std.proofs.Common.{take}
-use Rattle.txs_types.specs.Parts.{IsOfFile}
+use Rattle.txs_types.specs.Among.{IsOfFile}
 use Rattle.txs_types.specs.Collected.{ConstantsFound}
 use Rattle.txs_types.proofs.bodies.constants_of.Given as goal
 

@@ -1,5 +1,5 @@
 use Rattle.std.proofs.Common.{take}
-use Rattle.txs_types.specs.Parts.{IsOfFile}
+use Rattle.txs_types.specs.Among.{IsOfFile}
 use Rattle.txs_types.specs.Collected.{FunctionsFound}
 use Rattle.txs_types.proofs.bodies.functions_of.Given as goal
 

@@ -1,6 +1,6 @@
 use Rattle.std.proofs.Common.{refl, subst, ℕ, ap, ◌∙◌, sym, add-one, ◌+◌}
 use Rattle.txs_types.specs.Told.{Finds}
-use Rattle.txs_types.specs.Parts.{BadDefault}
+use Rattle.txs_types.specs.Among.{BadDefault}
 use Rattle.txs_types.proofs.Deciding.{among_none, among_more, among_end}
 use Rattle.txs_types.proofs.offences.bad_type.Goals as goal
 

@@ -1,4 +1,4 @@
-use Rattle.txs_types.specs.Parts.{TwiceIn}
+use Rattle.txs_types.specs.Among.{TwiceIn}
 use Rattle.txs_types.proofs.Deciding.{among_none, among_more, among_end}
 use Rattle.txs_types.proofs.offences.twice_parameter.Goals as goal
 

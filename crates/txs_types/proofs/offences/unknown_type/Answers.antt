@@ -1,4 +1,4 @@
-use Rattle.txs_types.specs.Parts.{UnknownIn}
+use Rattle.txs_types.specs.Among.{UnknownIn}
 use Rattle.txs_types.proofs.Deciding.{among_none, among_more, among_end}
 use Rattle.txs_types.proofs.offences.unknown_type.Goals as goal
 
