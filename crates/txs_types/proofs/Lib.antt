@@ -22,3 +22,11 @@ pub mod CallNodes
 pub mod Sides
 pub mod NameLaws
 mod QueryLaws
+mod Deciding
+mod Gathering
+mod Collecting
+mod Offending
+mod FileParts
+mod FileBodies
+mod FileJudged
+mod FileSafe

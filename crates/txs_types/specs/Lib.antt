@@ -8,3 +8,6 @@ pub mod Told
 pub mod View
 pub mod Parts
 pub mod Queries
+pub mod Among
+pub mod Counted
+pub mod Collected

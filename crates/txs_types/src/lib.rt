@@ -1,15 +1,21 @@
 //! The types of expressions and definitions: what a tree means at a type, and what offends in it.
 #![tactic(auto)]
 
+mod bodies;
 mod call;
 mod declarations;
+mod definitions;
 mod expression;
 mod fault;
 mod file;
+mod file_names;
+mod file_types;
 mod leaf;
+mod least;
 mod made;
 mod meaning;
 mod names;
+mod offences;
 mod query;
 mod scope;
 mod table_names;

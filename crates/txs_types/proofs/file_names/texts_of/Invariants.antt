@@ -1,0 +1,7 @@
+use Rattle.std.proofs.Common.{◌≡◌, ◌++◌, drop, map}
+use Rattle.txs_types.specs.View.{globals_of}
+use Rattle.txs_types.proofs.file_names.texts_of.Given as goal
+
+-- the names so far, with those that are left
+abbrev pub invariant-loop-global : goal.invariant-loop-global
+invariant-loop-global l = l.texts ++ map (λ g. g.name) (globals_of (drop l.global-index l.globals)) ≡ map (λ g. g.name) (globals_of l.globals)

@@ -1,0 +1,8 @@
+use Rattle.std.proofs.Common.{take}
+use Rattle.txs_types.specs.Told.{Finds}
+use Rattle.txs_types.specs.Among.{AmongDefs, UnknownIn}
+use Rattle.txs_types.proofs.offences.unknown_type.Given as goal
+
+-- the fault so far
+abbrev pub invariant-loop-def : goal.invariant-loop-def
+invariant-loop-def l = Finds l.fault (AmongDefs (UnknownIn l.types) (take l.def-index l.defs))

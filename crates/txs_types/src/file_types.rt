@@ -1,0 +1,162 @@
+ghost use Rattle.std.specs.Prelude.{◌≡◌, IfOk, OnOk, Bool, cond, [], ◌∷◌, ◌++◌, map};
+ghost use Rattle.txs_values.specs.TableView.{cons_of, conses_of};
+ghost use Rattle.txs_types.specs.Files as files;
+
+use crate::declarations::variables_of;
+use sqlite_items::Items;
+use std::alloc::Global;
+use txs_syntax::{ConDef, Decl, Def, Name};
+use txs_values::{ConsDef, ConsDefs, NoMemory, Text, TypeDef, TypeTable};
+
+fn constructor_of(alloc: Global, types: &[Name], con: &ConDef) -> Result<ConsDef, NoMemory>
+    ensures { IfOk result (λ c. cons_of c ≡ files.constructor_of types.now con.now) }
+{
+    Ok(ConsDef {
+        name: con.name.text.copy(alloc)?,
+        fields: variables_of(alloc, types, &con.fields)?,
+    })
+}
+
+/// The constructors of a type, where a file defines types of these names.
+pub fn constructors_of(alloc: Global, types: &[Name], cons: &[ConDef]) -> Result<ConsDefs, NoMemory>
+    ensures { IfOk result (λ cs. conses_of cs ≡ files.constructors_of types.now cons.now) }
+{
+    let mut made = Items::new(alloc);
+    for con in cons {
+        made.push(constructor_of(alloc, types, con)?)?;
+    }
+    Ok(made)
+}
+
+fn add_type(alloc: Global, types: &[Name], table: &mut TypeTable, def: &Def) -> Result<(), NoMemory>
+    ensures { OnOk result (table.new ≡ table.old ++ files.table_in types.now (def.now ∷ [])) }
+{
+    match def {
+        Def::TypeDef { name, constructors } => table.add(TypeDef {
+            name: name.text.copy(alloc)?,
+            cons: constructors_of(alloc, types, constructors.as_slice())?,
+        }),
+        _ => Ok(()),
+    }
+}
+
+/// The types that definitions define.
+pub fn table_of(alloc: Global, types: &[Name], defs: &[Def]) -> Result<TypeTable, NoMemory>
+    ensures { IfOk result (λ t. t ≡ files.table_in types.now defs.now) }
+{
+    let mut table = TypeTable::new(alloc);
+    for def in defs {
+        add_type(alloc, types, &mut table, def)?;
+    }
+    Ok(table)
+}
+
+fn is_text(text: &Text, name: &str) -> bool
+    ensures { result ≡ files.is_among text.now (name.now ∷ []) }
+{
+    text.as_str() == name
+}
+
+fn is_built_in(text: &Text) -> bool
+    ensures { result ≡ files.is_among text.now files.built_in_types }
+{
+    is_text(text, "Int") || is_text(text, "Bool") || is_text(text, "String")
+}
+
+fn has_name(text: &Text, types: &[Name]) -> bool
+    ensures { result ≡ files.is_among text.now (map (λ x. x.text) types.now) }
+{
+    for ty in types {
+        if is_text(text, ty.text.as_str()) {
+            return true;
+        }
+    }
+    false
+}
+
+/// Whether this type name has no definition.
+pub fn is_undefined(types: &[Name], name: &Name) -> bool
+    ensures { result ≡ files.is_undefined types.now name.now }
+{
+    if is_built_in(&name.text) {
+        return false;
+    }
+    !has_name(&name.text, types)
+}
+
+fn any_in_decls(types: &[Name], decls: &[Decl]) -> bool
+    ensures { result ≡ files.any_undefined types.now (files.types_used decls.now) }
+{
+    for decl in decls {
+        if is_undefined(types, &decl.ty) {
+            return true;
+        }
+    }
+    false
+}
+
+/// Whether a field of these constructors is of a type without a definition.
+fn any_undefined(types: &[Name], cons: &[ConDef]) -> bool
+    ensures { result ≡ files.any_undefined types.now (files.types_of_fields cons.now) }
+{
+    for con in cons {
+        if any_in_decls(types, con.fields.decls.as_slice()) {
+            return true;
+        }
+    }
+    false
+}
+
+fn one_without_fields(alloc: Global) -> Result<ConsDefs, NoMemory>
+    ensures { IfOk result (λ cs. conses_of cs ≡ record { name = []; fields = [] } ∷ []) }
+{
+    let mut made = Items::new(alloc);
+    made.push(ConsDef {
+        name: Text::from_string(String::new(alloc)),
+        fields: Items::new(alloc),
+    })?;
+    Ok(made)
+}
+
+fn excused_constructors(
+    alloc: Global,
+    types: &[Name],
+    cons: &[ConDef],
+) -> Result<ConsDefs, NoMemory>
+    ensures { IfOk result (λ cs. conses_of cs ≡ cond (files.any_undefined types.now (files.types_of_fields cons.now))
+        (record { name = []; fields = [] } ∷ []) (files.constructors_of types.now cons.now)) }
+{
+    if any_undefined(types, cons) {
+        one_without_fields(alloc)
+    } else {
+        constructors_of(alloc, types, cons)
+    }
+}
+
+fn add_excused(
+    alloc: Global,
+    types: &[Name],
+    table: &mut TypeTable,
+    def: &Def,
+) -> Result<(), NoMemory>
+    ensures { OnOk result (table.new ≡ table.old ++ files.excused types.now (def.now ∷ [])) }
+{
+    match def {
+        Def::TypeDef { name, constructors } => table.add(TypeDef {
+            name: name.text.copy(alloc)?,
+            cons: excused_constructors(alloc, types, constructors.as_slice())?,
+        }),
+        _ => Ok(()),
+    }
+}
+
+/// The types, where one with a field of an unknown type is given a constructor without fields instead.
+pub fn excused(alloc: Global, types: &[Name], defs: &[Def]) -> Result<TypeTable, NoMemory>
+    ensures { IfOk result (λ t. t ≡ files.excused types.now defs.now) }
+{
+    let mut table = TypeTable::new(alloc);
+    for def in defs {
+        add_excused(alloc, types, &mut table, def)?;
+    }
+    Ok(table)
+}

@@ -1,0 +1,16 @@
+ghost use Rattle.txs_types.specs.Among.{Least};
+
+use crate::fault::{TypeFault, lesser};
+
+/// That of two faults which decides, where there are any.
+pub fn least(a: Option<TypeFault>, b: Option<TypeFault>) -> Option<TypeFault>
+    ensures { Least a b result }
+{
+    match a {
+        None => b,
+        Some(f) => match b {
+            None => Some(f),
+            Some(g) => Some(lesser(f, g)),
+        },
+    }
+}

@@ -1,0 +1,170 @@
+ghost use Rattle.std.specs.Prelude.{◌≡◌, IfOk, IsTrue, ◌↔◌, ◌⊎◌, ◌<◌, [], ◌∷◌};
+ghost use Rattle.txs_types.specs.Files as files;
+ghost use Rattle.txs_types.specs.Told.{Finds};
+ghost use Rattle.txs_types.specs.Among.{Among, AmongDefs, IsTwice, AnyUndefined, TwiceIn, UnknownIn, BadDefault};
+
+use crate::declarations::{names_in, undefined};
+use crate::definitions::defined_names;
+use crate::fault::TypeFault;
+use crate::file_names::{built_ins, number_after, texts_of};
+use crate::file_types::is_undefined;
+use crate::least::least;
+use crate::names::repeated;
+use sqlite_items::Items;
+use std::alloc::Global;
+use txs_syntax::{ConDef, Decl, DeclList, Def, Name};
+use txs_values::{Extent, NoMemory, Text, Ty, TypeTable, default_extent};
+
+fn built_in_types(alloc: Global) -> Result<Items<Text>, NoMemory>
+    ensures { IfOk result (λ ts. ts ≡ files.built_in_types) }
+{
+    let mut texts = Items::new(alloc);
+    texts.push(Text::from_str(alloc, "Int")?)?;
+    texts.push(Text::from_str(alloc, "Bool")?)?;
+    texts.push(Text::from_str(alloc, "String")?)?;
+    Ok(texts)
+}
+
+/// The first name of a type that is there already.
+pub fn twice_type(alloc: Global, types: &[Name]) -> Result<Option<TypeFault>, NoMemory>
+    ensures { IfOk result (λ f. Finds f (IsTwice files.built_in_types types.now)) }
+{
+    let before = built_in_types(alloc)?;
+    repeated(alloc, before.as_slice(), types)
+}
+
+fn built_in_names(alloc: Global) -> Result<Items<Text>, NoMemory>
+    ensures { IfOk result (λ ts. ts ≡ files.built_in_names) }
+{
+    let globals = built_ins(alloc)?;
+    texts_of(alloc, globals.as_slice())
+}
+
+/// The first name of an expression that is there already.
+pub fn twice_name(alloc: Global, defs: &[Def]) -> Result<Option<TypeFault>, NoMemory>
+    ensures { IfOk result (λ f. Finds f (IsTwice files.built_in_names (files.defined_names defs.now))) }
+{
+    let before = built_in_names(alloc)?;
+    let names = defined_names(alloc, defs)?;
+    repeated(alloc, before.as_slice(), names.as_slice())
+}
+
+fn twice_among(alloc: Global, params: &DeclList) -> Result<Option<TypeFault>, NoMemory>
+    ensures { IfOk result (λ f. Finds f (IsTwice [] (files.names_in params.now.decls))) }
+{
+    let before = Items::new(alloc);
+    let names = names_in(alloc, params)?;
+    repeated(alloc, before.as_slice(), names.as_slice())
+}
+
+fn twice_in(alloc: Global, def: &Def) -> Result<Option<TypeFault>, NoMemory>
+    ensures { IfOk result (λ f. Finds f (TwiceIn def.now)) }
+{
+    match def {
+        Def::FuncDef { params, .. } => twice_among(alloc, params),
+        _ => Ok(None),
+    }
+}
+
+/// The first parameter that is there already.
+pub fn twice_parameter(alloc: Global, defs: &[Def]) -> Result<Option<TypeFault>, NoMemory>
+    ensures { IfOk result (λ f. Finds f (AmongDefs TwiceIn defs.now)) }
+{
+    let mut fault = None;
+    for def in defs {
+        fault = least(fault, twice_in(alloc, def)?);
+    }
+    Ok(fault)
+}
+
+/// The type name, where it has no definition.
+fn undefined_name(types: &[Name], name: &Name) -> Option<TypeFault>
+    ensures { Finds result (AnyUndefined types.now (name.now ∷ [])) }
+{
+    if is_undefined(types, name) {
+        Some(TypeFault::Unknown { at: name.at })
+    } else {
+        None
+    }
+}
+
+fn undefined_field(types: &[Name], cons: &[ConDef]) -> Option<TypeFault>
+    ensures { Finds result (AnyUndefined types.now (files.types_of_fields cons.now)) }
+{
+    let mut fault = None;
+    for con in cons {
+        fault = least(fault, undefined(types, &con.fields));
+    }
+    fault
+}
+
+fn unknown_in(types: &[Name], def: &Def) -> Option<TypeFault>
+    ensures { Finds result (UnknownIn types.now def.now) }
+{
+    match def {
+        Def::TypeDef { constructors, .. } => undefined_field(types, constructors.as_slice()),
+        Def::FuncDef { params, result, .. } => {
+            least(undefined(types, params), undefined_name(types, result))
+        }
+        Def::ConstDef { ty, .. } => undefined_name(types, ty),
+    }
+}
+
+/// The first type name without a definition.
+pub fn unknown_type(types: &[Name], defs: &[Def]) -> Option<TypeFault>
+    ensures { Finds result (AmongDefs (UnknownIn types.now) defs.now) }
+{
+    let mut fault = None;
+    for def in defs {
+        fault = least(fault, unknown_in(types, def));
+    }
+    fault
+}
+
+/// The greatest size and height of a default.
+const SIZE_LIMIT: u64 = 16_384;
+
+const HEIGHT_LIMIT: u64 = 1_000;
+
+fn is_big(extent: Extent) -> bool
+    ensures { IsTrue result ↔ ((16384 < extent.size) ⊎ (1000 < extent.height)) }
+{
+    extent.size > SIZE_LIMIT || extent.height > HEIGHT_LIMIT
+}
+
+fn bad_default(
+    alloc: Global,
+    table: &TypeTable,
+    number: u32,
+    name: &Name,
+) -> Result<Option<TypeFault>, NoMemory>
+    ensures { IfOk result (λ f. Finds f (BadDefault table.now number name.now)) }
+{
+    match default_extent(alloc, table, Ty::Named(number))? {
+        None => Ok(Some(TypeFault::EmptyType { at: name.at })),
+        Some(extent) => {
+            if is_big(extent) {
+                Ok(Some(TypeFault::BigType { at: name.at }))
+            } else {
+                Ok(None)
+            }
+        }
+    }
+}
+
+/// The first type without a default, or with too large or high a one.
+pub fn bad_type(
+    alloc: Global,
+    table: &TypeTable,
+    types: &[Name],
+) -> Result<Option<TypeFault>, NoMemory>
+    ensures { IfOk result (λ f. Finds f (Among (BadDefault table.now) types.now)) }
+{
+    let mut fault = None;
+    let mut number: u32 = 0;
+    for name in types {
+        fault = least(fault, bad_default(alloc, table, number, name)?);
+        number = number_after(number)?;
+    }
+    Ok(fault)
+}
