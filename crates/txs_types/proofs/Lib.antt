@@ -20,3 +20,4 @@ pub mod Inside
 pub mod Finish
 pub mod CallNodes
 pub mod Sides
+pub mod Weights
