@@ -1,5 +1,8 @@
 -- What is judged of a call.
-use Rattle.std.proofs.Common.{true, ◌&&◌, ◌≡◌, ◌≢◌, ◌⊎◌, ◌<◌, ℕ, zero, suc, Bool, ap, sym, subst, ◌∙◌, List, [], ◌∷◌, ◌++◌, length, map, slice_get, Option, Some, None, Result, Ok, Err, MatchResult, refl, inl, inr, arith}
+use Rattle.std.proofs.lemmas.List.{take_more, length-map, length-take-le}
+use Rattle.std.proofs.Common.{◌+◌, ◌≤◌, take, get_or, IfOk, true, ◌&&◌, ◌≡◌, ◌≢◌, ◌⊎◌, ◌<◌, ℕ, zero, suc, Bool, ap, sym, subst, ◌∙◌, List, [], ◌∷◌, ◌++◌, length, map, slice_get, Option, Some, None, Result, Ok, Err, MatchResult, refl, inl, inr, arith}
+use Rattle.txs_values.specs.declared.ty.Ty as rust_ty
+use Rattle.txs_values.specs.declared.ty.Ty.TheVariants as ty
 use Rattle.txs_values.specs.Value.{Ty}
 use Rattle.txs_values.specs.View.{ty_of}
 use Rattle.txs_terms.specs.declared.expr.Expr as rust_expr
@@ -14,14 +17,15 @@ use Rattle.txs_types.specs.declared.fault.TypeFault.{TypeFault}
 use Rattle.txs_types.specs.declared.fault.TypeFault.TheVariants as fault
 use Rattle.txs_types.specs.Names.{Scope, Meaning, named_value, named_constant, named_function, named_constructor, named_test, named_selector, named_not, named_to_string, named_from_string, named_len, named_at, Fits, anything, takes, called}
 use Rattle.txs_types.specs.Elaborates.{Suits, Makes, Elaborates, call, ElaboratesEach, nothing, one_more, HasInts, ints_step, all_true}
-use Rattle.txs_types.specs.Offends.{Offence, unknown, arity, mismatch, IsWhole, whole_step, IsMiscalled, OffendsAt, Offends, unknown_call, wrong_number, from_nowhere, argument, stray_argument, other_type}
+use Rattle.txs_types.specs.Offends.{Offence, twice, unknown, arity, mismatch, empty_type, big_type, IsWhole, whole_step, IsMiscalled, OffendsAt, Offends, unknown_call, wrong_number, from_nowhere, argument, stray_argument, other_type}
 use Rattle.txs_types.specs.Files.{NotAfter}
 use Rattle.txs_types.specs.Answer.{offence_of, Told}
 use Rattle.txs_types.specs.Told.{Lesser}
-use Rattle.txs_types.specs.View.{Judges, JudgesAt}
-use Rattle.txs_types.specs.Parts.{Typed, Whole, Means, Tells, Gathers, Argues, HaveInts, JudgesEach, call_type, Applies, IsMismade, CallsWith, stray_needs, Strays}
+use Rattle.txs_types.specs.View.{want_of, wants_of, Judges, JudgesAt}
+use Rattle.txs_types.specs.Parts.{Typed, Whole, Means, Tells, Gathers, Argues, HaveInts, JudgesEach, call_type, Applies, IsMismade, CallsWith, stray_needs, Strays, StraysWith}
 use Rattle.txs_types.proofs.Unique.{some_injective}
 use Rattle.txs_types.proofs.NotBoth.{none≢some, not_both}
+use Rattle.txs_types.proofs.Judged.{as_many_exprs}
 use Rattle.txs_types.proofs.Trees.{fold_call}
 use Rattle.txs_types.proofs.Inside.{Inside, i_call, i_number, i_nowhere, i_argument, i_stray, Other, split, at_none}
 use Rattle.txs_types.proofs.ToldLaws.{told_same, told_either, told_left, told_right}
@@ -269,3 +273,62 @@ arity_node at scope want x args m needs f c l h =
     strays_node at scope want x args (λ m' needs' k e. l (e ∙ ap (λ r. length r.1) (some_injective (sym k ∙ c)))) (fault.Arity x.at)
     (λ o p w. subst (OffendsAt at scope w (tree.Call x args)) (some_injective p) (wrong_number args c l))
     (λ o i. arity_owned c l o i) f h
+
+-- one more argument
+strays_snoc : (scope : Scope) (args : List Ast) (a : Ast) → stray_needs scope (args ++ a ∷ []) ≡ stray_needs scope args ++ Some (anything scope) ∷ []
+strays_snoc scope [] a = refl
+strays_snoc scope (b ∷ args) a = ap (λ l. Some (anything scope) ∷ l) (strays_snoc scope args a)
+
+wants_snoc : (needs : List (Option rust_ty.Ty)) (n : Option rust_ty.Ty) → wants_of (needs ++ n ∷ []) ≡ wants_of needs ++ want_of n ∷ []
+wants_snoc [] n = refl
+wants_snoc (m ∷ needs) n = ap (λ l. want_of m ∷ l) (wants_snoc needs n)
+
+pub strays_more : (scope : Scope) (args : List Ast) (i : ℕ) (needs : List (Option rust_ty.Ty)) (d : Ast) → i < length args → wants_of needs ≡ stray_needs scope (take i args)
+    → wants_of (needs ++ Some (ty.Named scope.types) ∷ []) ≡ stray_needs scope (take (i + 1) args)
+strays_more scope args i needs d h e =
+    wants_snoc needs (Some (ty.Named scope.types)) ∙ (ap (λ l. l ++ Some (anything scope) ∷ []) e
+    ∙ (sym (strays_snoc scope (take i args) (get_or args i d)) ∙ ap (stray_needs scope) (sym (take_more args i d h))))
+
+pub each_step : (scope : Scope) (needs : List (Option rust_ty.Ty)) (args : List Ast) (i : ℕ) (n : Option rust_ty.Ty) (a : Ast) (so_far : Result (List rust_expr.Expr) TypeFault)
+    (found : Result Typed TypeFault) (r : Result (List rust_expr.Expr) TypeFault) → length needs ≡ length args → i < length args
+    → JudgesEach scope (wants_of (take i needs)) (take i args) so_far → Judges scope (want_of (get_or needs i n)) (get_or args i a) found
+    → Gathers so_far found r → JudgesEach scope (wants_of (take (i + 1) needs)) (take (i + 1) args) r
+each_step scope needs args i n a so_far found r l h j k g =
+    let there : i < length needs = omega (arith, l, h) in
+    let many : length (wants_of (take i needs)) ≡ length (take i args) = length-map (take i needs) want_of ∙ (length-take-le i needs (omega (arith, there)) ∙ sym (length-take-le i args (omega (arith, h)))) in
+    subst (λ ns. JudgesEach scope ns (take (i + 1) args) r) (sym (ap wants_of (take_more needs i n there) ∙ wants_snoc (take i needs) (get_or needs i n)))
+    (subst (λ l. JudgesEach scope (wants_of (take i needs) ++ want_of (get_or needs i n) ∷ []) l r) (sym (take_more args i a h))
+    (each_more scope (wants_of (take i needs)) (take i args) (want_of (get_or needs i n)) (get_or args i a) so_far found r many j k g))
+
+-- all arguments mean as many expressions
+pub as_many_found : (scope : Scope) (needs : List (Option Ty)) (args : List Ast) (found : Result (List rust_expr.Expr) TypeFault) → JudgesEach scope needs args found
+    → IfOk found (λ es. length es ≡ length needs)
+as_many_found scope needs args (Ok es) h = sym (length-map es expr_of) ∙ as_many_exprs h.0
+as_many_found scope needs args (Err f) h = tt
+
+own_told : (g : TypeFault) → Told g (λ o. offence_of g ≡ Some o)
+own_told (fault.Twice at) = record { stands = refl; first = λ p e. subst (NotAfter (twice at)) (some_injective e) (inr (refl, omega arith)) }
+own_told (fault.Unknown at) = record { stands = refl; first = λ p e. subst (NotAfter (unknown at)) (some_injective e) (inr (refl, omega arith)) }
+own_told (fault.Arity at) = record { stands = refl; first = λ p e. subst (NotAfter (arity at)) (some_injective e) (inr (refl, omega arith)) }
+own_told (fault.Mismatch at) = record { stands = refl; first = λ p e. subst (NotAfter (mismatch at)) (some_injective e) (inr (refl, omega arith)) }
+own_told (fault.EmptyType at) = record { stands = refl; first = λ p e. subst (NotAfter (empty_type at)) (some_injective e) (inr (refl, omega arith)) }
+own_told (fault.BigType at) = record { stands = refl; first = λ p e. subst (NotAfter (big_type at)) (some_injective e) (inr (refl, omega arith)) }
+own_told fault.NoMemory = tt
+
+pub strays_told : (scope : Scope) (g : TypeFault) (args : List Ast) (found : Result (List rust_expr.Expr) TypeFault) (r : Result Typed TypeFault)
+    → JudgesEach scope (stray_needs scope args) args found → StraysWith g found r → MatchResult r (λ t. ⊥) (λ f. Told f (Strays scope g args))
+strays_told scope g args (Ok es) r h w =
+    subst (λ r. MatchResult r (λ t. ⊥) (λ f. Told f (Strays scope g args))) (sym w)
+    (told_left g (λ o. offence_of g ≡ Some o) (Argues scope (stray_needs scope args) args) (own_told g) (none_argues scope (stray_needs scope args) args (exprs_of es) h.0))
+strays_told scope g args (Err f) r h w =
+    subst (λ r. MatchResult r (λ t. ⊥) (λ f. Told f (Strays scope g args))) (sym w.1)
+    (told_either g f w.0 (λ o. offence_of g ≡ Some o) (Argues scope (stray_needs scope args) args) (own_told g) h w.2)
+
+pub strays_judged : (at : ℕ) (scope : Scope) (want : Option Ty) (a : Ast) (g : TypeFault) (args : List Ast) (r : Result Typed TypeFault)
+    → MatchResult r (λ t. ⊥) (λ f. Told f (Strays scope g args)) → ((f : TypeFault) → Told f (Strays scope g args) → Told f (OffendsAt at scope want a)) → JudgesAt at scope want a r
+strays_judged at scope want a g args (Ok t) h k = absurd h
+strays_judged at scope want a g args (Err f) h k = k f h
+
+pub length_strays : (scope : Scope) (args : List Ast) → length (stray_needs scope args) ≡ length args
+length_strays scope [] = refl
+length_strays scope (a ∷ args) = ap suc (length_strays scope args)

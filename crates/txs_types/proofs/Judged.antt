@@ -155,7 +155,7 @@ makes named_at needs es p h =
     let o = two_exprs es (h ∙ ap length (sym (some_injective p))) in
     inr (two char_at o.0 o.1, string, λ want. subst (λ l. Makes want named_at l (two char_at o.0 o.1) string) (sym o.2) (at_made want o.0 o.1))
 
-taken : (m : Option Meaning) (r : Meaning × List (Option Ty))
+pub taken : (m : Option Meaning) (r : Meaning × List (Option Ty))
     → elim m [ None ↦ None | Some m ↦ elim (takes m) [ None ↦ None | Some ts ↦ Some (m, ts) ] ] ≡ Some r → takes r.0 ≡ Some r.1
 taken None r h = absurd (none≢some h)
 taken (Some m) r h = by_takes (takes m) refl h
@@ -164,7 +164,7 @@ taken (Some m) r h = by_takes (takes m) refl h
     by_takes None p k = absurd (none≢some k)
     by_takes (Some ts) p k = subst (λ (r : Meaning × List (Option Ty)). takes r.0 ≡ Some r.1) (some_injective k) p
 
-as_many_exprs : {scope : Scope} {needs : List (Option Ty)} {args : List Ast} {es : List Expr} → ElaboratesEach scope needs args es → length es ≡ length needs
+pub as_many_exprs : {scope : Scope} {needs : List (Option Ty)} {args : List Ast} {es : List Expr} → ElaboratesEach scope needs args es → length es ≡ length needs
 as_many_exprs nothing = refl
 as_many_exprs (one_more d ds) = ap suc (as_many_exprs ds)
 

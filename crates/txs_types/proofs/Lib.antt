@@ -30,3 +30,4 @@ mod FileParts
 mod FileBodies
 mod FileJudged
 mod FileSafe
+pub mod Weights

@@ -20,7 +20,7 @@ use Rattle.txs_types.specs.Offends.{Offence, IsWhole, whole_step, earlier, later
 use Rattle.txs_types.specs.Answer.{offence_of, Told}
 use Rattle.txs_types.specs.Told.{Lesser, memory_first, left_first, right_first as second_first, Joined}
 use Rattle.txs_types.specs.View.{Judges, JudgesAt}
-use Rattle.txs_types.specs.Parts.{Typed, operand, outcome, make, shown, Whole, Made, MadeTyped, choice_type, Tells, Means, InOrder, OffendInOrder, Sides}
+use Rattle.txs_types.specs.Parts.{Typed, operand, outcome, make, shown, Whole, Made, MadeTyped, choice_type, Tells, Means, InOrder, OffendInOrder, Sides, Turned}
 use Rattle.txs_types.proofs.Unique.{some_injective, unique, same_operator, no_operator}
 use Rattle.txs_types.proofs.NotBoth.{none≢some, not_both}
 use Rattle.txs_types.proofs.Trees.{fold_negate, fold_binary, fold_group, fold_if, fold_let}
@@ -95,14 +95,14 @@ tells_behind scope a G Q (Err f) (Ok u) r h k j =
     (elim (some_offence f (Offends scope None a) h) [
       | inl e ↦ subst (λ f. Told f (Either (Offends scope None a) (Behind scope a Q))) (sym e) tt
       | inr w ↦ (let b = behind_it scope a Q (anything scope) (as_anything w.1) (λ s p. shows_any scope a w.0 s w.1 p) in
-      told_left f (Offends scope None a) (Behind scope a Q) h (λ o q. k.1 o (b.1 o q)))
+          told_left f (Offends scope None a) (Behind scope a Q) h (λ o q. k.1 o (b.1 o q)))
     ])
 tells_behind scope a G Q (Err f) (Err g) r h k j =
     subst (Tells (λ (p : Typed × Typed). Means scope None a p.0 × G (ty_of p.0.ty) p.1) (Either (Offends scope None a) (Behind scope a Q))) (sym j.1)
     (elim (some_offence f (Offends scope None a) h) [
       | inl e ↦ subst (λ f. Told f (Either (Offends scope None a) (Behind scope a Q))) (sym (memory_lesser (subst (λ f. Lesser f g j.0) e j.2))) tt
       | inr w ↦ (let b = behind_it scope a Q (anything scope) (as_anything w.1) (λ s p. shows_any scope a w.0 s w.1 p) in
-      told_either f g j.0 (Offends scope None a) (Behind scope a Q) h (told_same g (Q (anything scope)) (Behind scope a Q) b.0 b.1 k) j.2)
+          told_either f g j.0 (Offends scope None a) (Behind scope a Q) h (told_same g (Q (anything scope)) (Behind scope a Q) b.0 b.1 k) j.2)
     ])
 
 pub tells_in_order : (scope : Scope) (a b : Ast) (x y : Result Typed TypeFault) (r : Result (Typed × Typed) TypeFault)
@@ -250,14 +250,14 @@ tells_sides scope a b r e h =
     subst (λ x. Tells (Sides scope a b) (OffendInOrder scope (cond x b a) (cond x a b)) r) (sym e)
     (tells_same (InOrder scope a b) (Sides scope a b) (OffendInOrder scope a b) (OffendInOrder scope a b) r (λ x g. inl (e, g)) (λ o p. p) (λ o p. p) h)
 
-pub tells_back : (scope : Scope) (a b : Ast) (x y : Typed) → right_first a b ≡ true → Tells (InOrder scope b a) (OffendInOrder scope b a) (Ok (x, y))
-    → Tells (Sides scope a b) (OffendInOrder scope (earlier a b) (later a b)) (Ok (y, x))
-tells_back scope a b x y e h =
-    subst (λ z. Tells (Sides scope a b) (OffendInOrder scope (cond z b a) (cond z a b)) (Ok (y, x))) (sym e) (inr (e, h.0), h.1)
-
-pub tells_back_fault : (scope : Scope) (a b : Ast) (f : TypeFault) → right_first a b ≡ true → Told f (OffendInOrder scope b a)
-    → Told f (OffendInOrder scope (earlier a b) (later a b))
-tells_back_fault scope a b f e h = subst (λ z. Told f (OffendInOrder scope (cond z b a) (cond z a b))) (sym e) h
+pub tells_back : (scope : Scope) (a b : Ast) (x r : Result (Typed × Typed) TypeFault) → right_first a b ≡ true → Tells (InOrder scope b a) (OffendInOrder scope b a) x → Turned x r
+    → Tells (Sides scope a b) (OffendInOrder scope (earlier a b) (later a b)) r
+tells_back scope a b (Ok p) r e h w =
+    subst (Tells (Sides scope a b) (OffendInOrder scope (earlier a b) (later a b))) (sym w)
+    (subst (λ z. Tells (Sides scope a b) (OffendInOrder scope (cond z b a) (cond z a b)) (Ok (p.1, p.0))) (sym e) (inr (e, h.0), h.1))
+tells_back scope a b (Err f) r e h w =
+    subst (Tells (Sides scope a b) (OffendInOrder scope (earlier a b) (later a b))) (sym w)
+    (subst (λ z. Told f (OffendInOrder scope (cond z b a) (cond z a b))) (sym e) h)
 
 -- ---- brackets, choices, bindings
 

@@ -183,3 +183,12 @@ stray_needs scope (a ∷ args) = Some (anything scope) ∷ stray_needs scope arg
 -- the offence of the fault stands, or one of an argument
 abbrev pub Strays : Scope → TypeFault → List Ast → Offence → Type 0
 Strays scope f args o = (offence_of f ≡ Some o) ⊎ Argues scope (stray_needs scope args) args o
+
+abbrev pub StraysWith : TypeFault → Result (List rust_expr.Expr) TypeFault → Result Typed TypeFault → Type 0
+StraysWith g (Ok es) r = r ≡ Err g
+StraysWith g (Err f) r = (h : TypeFault) × (r ≡ Err h) × Lesser g f h
+
+-- the two, the other way round
+abbrev pub Turned : Result (Typed × Typed) TypeFault → Result (Typed × Typed) TypeFault → Type 0
+Turned (Ok p) r = r ≡ Ok (p.1, p.0)
+Turned (Err f) r = r ≡ Err f

@@ -95,7 +95,9 @@ pub fn applied(alloc: Global, called: &Called, ty: Ty, args: Exprs) -> Result<Ex
         Meaning::Constructor { number, .. } => Ok(constructed(alloc, number, args)),
         Meaning::Test { constructor, .. } => one(alloc, Unary::IsMadeBy(constructor), args),
         Meaning::Selector {
-            constructor, field, ..
+            constructor,
+            field,
+            ..
         } => one(alloc, Unary::Select { constructor, field }, args),
         Meaning::Not => one(alloc, Unary::Not, args),
         Meaning::ToText => one(alloc, Unary::ToText, args),
@@ -137,4 +139,14 @@ pub fn stray_needs(
         needs.push(Some(Ty::Named(scope.types)))?;
     }
     Ok(needs)
+}
+
+/// A call that is an offence itself, with what was found of its arguments.
+pub fn strayed(fault: TypeFault, found: Result<Exprs, TypeFault>) -> Result<Typed, TypeFault>
+    ensures { parts.StraysWith fault found result }
+{
+    match found {
+        Ok(_) => Err(fault),
+        Err(other) => Err(lesser(fault, other)),
+    }
 }

@@ -6,12 +6,13 @@ ghost use Rattle.txs_types.specs.Offends.{Offends, earlier, later};
 ghost use Rattle.txs_types.specs.View.{scope_of, want_of, wants_of, Judges, JudgesAt};
 ghost use Rattle.txs_types.specs.Parts.{Typed as TheTyped, Means, Tells, Sides, InOrder, OffendInOrder, JudgesEach, Strays};
 
-use crate::call::{gathered, stray_needs};
-use crate::fault::{TypeFault, lesser};
-use crate::made::{
-    bound, chosen, first, joined, negated, operand, operated, outcome, right_first, shown, whole,
-};
+use crate::call::{gathered, stray_needs, strayed};
+use crate::fault::TypeFault;
 use crate::leaf::{called_with, named, number, quoted};
+use crate::made::{
+    bound, chosen, first, joined, negated, operand, operated, outcome, right_first, shown, turned,
+    whole,
+};
 use crate::scope::Scope;
 use crate::typed::Typed;
 use sqlite_items::{Boxed, Items};
@@ -57,10 +58,16 @@ fn judge(
         Ast::Binary { op, left, right } => operation(alloc, scope, want, at, *op, left, right),
         Ast::Group { inner, .. } => judge(alloc, scope, want, at, inner.get()),
         Ast::If {
-            condition, yes, no, ..
+            condition,
+            yes,
+            no,
+            ..
         } => choice(alloc, scope, want, condition, yes, no),
         Ast::Let {
-            name, value, body, ..
+            name,
+            value,
+            body,
+            ..
         } => binding(alloc, scope, want, name, value, body),
     }
 }
@@ -126,10 +133,10 @@ fn strays(
     ensures kept { scope.new ≡ scope.old }
 {
     match stray_needs(alloc, scope, args) {
-        Ok(needs) => match each(alloc, scope, needs.as_slice(), args) {
-            Ok(_) => Err(fault),
-            Err(found) => Err(lesser(fault, found)),
-        },
+        Ok(needs) => {
+            let found = each(alloc, scope, needs.as_slice(), args);
+            strayed(fault, found)
+        }
         Err(_) => Err(TypeFault::NoMemory),
     }
 }
@@ -164,11 +171,16 @@ fn operation(
     ensures judged { JudgesAt at (scope_of scope.old) (want_of want) (tree.Binary op left.now right.now) result }
     ensures kept { scope.new ≡ scope.old }
 {
-    let found = match operand(op) {
-        Some(need) => both(alloc, scope, need, left, right),
-        None => compared(alloc, scope, left, right),
-    };
-    whole(scope, want, at, operated(alloc, op, found), outcome(op))
+    match operand(op) {
+        Some(need) => {
+            let found = both(alloc, scope, need, left, right);
+            whole(scope, want, at, operated(alloc, op, found), outcome(op))
+        }
+        None => {
+            let found = compared(alloc, scope, left, right);
+            whole(scope, want, at, operated(alloc, op, found), outcome(op))
+        }
+    }
 }
 
 /// Both sides, needed at one type.
@@ -182,7 +194,7 @@ fn both(
 ) -> Result<(Typed, Typed), TypeFault>
     ensures told { let s = scope_of scope.old in let n = Some (ty_of need) in
         Tells (λ (p : TheTyped × TheTyped). Means s n left.now p.0 × Means s n right.now p.1)
-            (λ o. Offends s n left.now o ⊎ Offends s n right.now o) result }
+        (λ o. Offends s n left.now o ⊎ Offends s n right.now o) result }
     ensures kept { scope.new ≡ scope.old }
 {
     let a = expression(alloc, scope, Some(need), left.get());
@@ -203,8 +215,7 @@ fn compared(
     ensures kept { scope.new ≡ scope.old }
 {
     if right_first(left.get(), right.get()) {
-        let (b, a) = in_order(alloc, scope, right, left)?;
-        Ok((a, b))
+        turned(in_order(alloc, scope, right, left))
     } else {
         in_order(alloc, scope, left, right)
     }
@@ -241,11 +252,16 @@ fn choice(
     ensures kept { scope.new ≡ scope.old }
 {
     let c = expression(alloc, scope, Some(Ty::Bool), condition.get());
-    let found = match want {
-        Some(need) => both(alloc, scope, need, yes, no),
-        None => in_order(alloc, scope, yes, no),
-    };
-    chosen(alloc, want, joined(c, found))
+    match want {
+        Some(need) => {
+            let found = both(alloc, scope, need, yes, no);
+            chosen(alloc, Some(need), joined(c, found))
+        }
+        None => {
+            let found = in_order(alloc, scope, yes, no);
+            chosen(alloc, None, joined(c, found))
+        }
+    }
 }
 
 /// A name for a value in an expression.

@@ -39,7 +39,13 @@ pub fn quoted(
     ensures { (place : ℕ) → JudgesAt at (scope_of scope.now) (want_of want) (tree.Text place text.now) result }
 {
     match text.copy(alloc) {
-        Ok(text) => whole(scope, want, at, Ok(Expr::Value(Value::Text(text))), Ty::Text),
+        Ok(text) => whole(
+            scope,
+            want,
+            at,
+            Ok(Expr::Value(Value::Text(text))),
+            Ty::Text,
+        ),
         Err(_) => Err(TypeFault::NoMemory),
     }
 }
@@ -84,4 +90,3 @@ pub fn called_with(
         Err(fault) => Err(fault),
     }
 }
-

@@ -146,6 +146,16 @@ pub fn joined<A: Drop, B: Drop>(
     }
 }
 
+/// The two, the other way round.
+pub fn turned(found: Result<(Typed, Typed), TypeFault>) -> Result<(Typed, Typed), TypeFault>
+    ensures { parts.Turned found result }
+{
+    match found {
+        Ok((a, b)) => Ok((b, a)),
+        Err(fault) => Err(fault),
+    }
+}
+
 fn two(alloc: Global, operator: Binary, a: Expr, b: Expr) -> Result<Expr, NoMemory>
     ensures { MatchResult result (λ e. expr_of e ≡ of.two (binary_of operator) (expr_of a) (expr_of b)) (λ f. Unit {0}) }
 {
@@ -213,8 +223,10 @@ pub fn chosen(
     want: Option<Ty>,
     found: Result<(Typed, (Typed, Typed)), TypeFault>,
 ) -> Result<Typed, TypeFault>
-    ensures { MadeTyped (λ (p : TheTyped × (TheTyped × TheTyped)). (of.choose (expr_of p.0.expr) (expr_of p.1.0.expr) (expr_of p.1.1.expr),
-        parts.choice_type (want_of want) (ty_of p.1.0.ty))) found result }
+    ensures { MadeTyped (λ (p : TheTyped × (TheTyped × TheTyped)). (
+      of.choose (expr_of p.0.expr) (expr_of p.1.0.expr) (expr_of p.1.1.expr),
+      parts.choice_type (want_of want) (ty_of p.1.0.ty),
+    )) found result }
 {
     match found {
         Ok((c, (a, b))) => {

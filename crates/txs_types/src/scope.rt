@@ -1,6 +1,7 @@
-ghost use Rattle.std.specs.Prelude.{◌≡◌, ◌++◌, IfOk, OnOk, OnErr, MatchOption, MatchResult, None, Some, [], ◌∷◌, map, option_map, if◌then◌else◌};
+ghost use Rattle.std.specs.Prelude.{◌≡◌, ◌++◌, List, IfOk, OnOk, OnErr, [], ◌∷◌, Some, map, option_map, if◌then◌else◌};
 ghost use Rattle.txs_values.specs.View.{ty_of};
 ghost use Rattle.txs_values.specs.TableView.{field_of};
+ghost use Rattle.txs_values.specs.declared.table.FieldDef as rust_field;
 ghost use Rattle.txs_terms.specs.Expr as of;
 ghost use Rattle.txs_types.specs.Names as names;
 ghost use Rattle.txs_types.specs.View.{scope_of, typed_of, wants_of, called_of, meaning_of, global_of};
@@ -104,11 +105,7 @@ fn two_needs(alloc: Global, first: Ty, second: Ty) -> Result<Items<Option<Ty>>, 
 }
 
 /// The types at which what is called needs its arguments.
-fn takes(
-    alloc: Global,
-    means: Meaning,
-    takes: &[Ty],
-) -> Result<Option<Items<Option<Ty>>>, NoMemory>
+fn takes(alloc: Global, means: Meaning, takes: &[Ty]) -> Result<Option<Items<Option<Ty>>>, NoMemory>
     ensures { IfOk result (λ ts. option_map wants_of ts ≡ names.takes (meaning_of means (map ty_of takes.now))) }
 {
     match means {
@@ -177,7 +174,8 @@ impl Scope {
 
     /// One more local.
     pub fn bind(&mut self, alloc: Global, name: &Text, ty: Ty) -> Result<(), NoMemory>
-        ensures ok { OnOk result (scope_of self.new ≡ names.inside (scope_of self.old) name.now (ty_of ty)) }
+        ensures bound { OnOk result (scope_of self.new ≡ names.inside (scope_of self.old) name.now (ty_of ty)) }
+        ensures ok { OnOk result (self.new ≡ record self.old { locals = self.old.locals ++ record { name = name.now; ty = ty } ∷ [] }) }
         ensures err { OnErr result (self.new ≡ self.old) }
     {
         let name = name.copy(alloc)?;
@@ -186,7 +184,10 @@ impl Scope {
     }
 
     /// The innermost local goes.
-    pub fn unbind(&mut self) {
+    pub fn unbind(&mut self)
+        ensures locals { (vs : List rust_field.FieldDef) (v : rust_field.FieldDef) → self.old.locals ≡ vs ++ v ∷ [] → self.new.locals ≡ vs }
+        ensures same { self.new ≡ record self.old { locals = self.new.locals } }
+    {
         self.locals.pop();
     }
 }

@@ -21,13 +21,13 @@ loop-variable-preserved c =
     let rest = last_of x (i + 1) (map field_of (drop (i + 1) c.args.variables.now)) in (
       c.loop-variable.invariant.0 ∙ elim c.if-is.branch [
         | then-is w ↦ last_same x c.args.variables.now i c.variable-item.result c.loop-variable-test.true (seen c.loop-variable.found)
-        (ap (λ v. bytes_eq v.name x) (sym here) ∙ same_text c.variable-item.result.name x (w.if-is.ensures.0 refl))
-        ∙ (ap (λ v. or_else rest (Some (i, (field_of v).ty))) (sym here)
-        ∙ (ap (λ k. or_else rest (Some (k, ty_of c.variable-item.result.ty))) (sym c.loop-variable.invariant.1)
-        ∙ ap (λ f. or_else rest (seen f)) (sym w.found-is)))
+            (ap (λ v. bytes_eq v.name x) (sym here) ∙ same_text c.variable-item.result.name x (w.if-is.ensures.0 refl))
+            ∙ (ap (λ v. or_else rest (Some (i, (field_of v).ty))) (sym here)
+            ∙ (ap (λ k. or_else rest (Some (k, ty_of c.variable-item.result.ty))) (sym c.loop-variable.invariant.1)
+            ∙ ap (λ f. or_else rest (seen f)) (sym w.found-is)))
         | else-is w ↦ last_other x c.args.variables.now i c.variable-item.result c.loop-variable-test.true (seen c.loop-variable.found)
-        (ap (λ v. bytes_eq v.name x) (sym here) ∙ other_text c.variable-item.result.name x w.if-is.ensures.1)
-        ∙ ap (λ f. or_else rest (seen f)) (sym w.found-is)
+            (ap (λ v. bytes_eq v.name x) (sym here) ∙ other_text c.variable-item.result.name x w.if-is.ensures.1)
+            ∙ ap (λ f. or_else rest (seen f)) (sym w.found-is)
       ],
       ap (λ k. k + 1) c.loop-variable.invariant.1,
     )
