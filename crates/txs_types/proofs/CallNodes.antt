@@ -1,6 +1,6 @@
 -- What is judged of a call.
 use Rattle.std.proofs.lemmas.List.{take_more, length-map, length-take-le}
-use Rattle.std.proofs.Common.{◌+◌, ◌≤◌, take, get_or, IfOk, true, ◌&&◌, ◌≡◌, ◌≢◌, ◌⊎◌, ◌<◌, ℕ, zero, suc, Bool, ap, sym, subst, ◌∙◌, List, [], ◌∷◌, ◌++◌, length, map, slice_get, Option, Some, None, Result, Ok, Err, MatchResult, refl, inl, inr, arith}
+use Rattle.std.proofs.Common.{◌+◌, take, get_or, IfOk, true, ◌&&◌, ◌≡◌, ◌≢◌, ◌⊎◌, ◌<◌, ℕ, zero, suc, Bool, ap, sym, subst, ◌∙◌, List, [], ◌∷◌, ◌++◌, length, map, slice_get, Option, Some, None, Result, Ok, Err, MatchResult, refl, inl, inr, arith}
 use Rattle.txs_values.specs.declared.ty.Ty as rust_ty
 use Rattle.txs_values.specs.declared.ty.Ty.TheVariants as ty
 use Rattle.txs_values.specs.Value.{Ty}
@@ -17,17 +17,16 @@ use Rattle.txs_types.specs.declared.fault.TypeFault.{TypeFault}
 use Rattle.txs_types.specs.declared.fault.TypeFault.TheVariants as fault
 use Rattle.txs_types.specs.Names.{Scope, Meaning, named_value, named_constant, named_function, named_constructor, named_test, named_selector, named_not, named_to_string, named_from_string, named_len, named_at, Fits, anything, takes, called}
 use Rattle.txs_types.specs.Elaborates.{Suits, Makes, Elaborates, call, ElaboratesEach, nothing, one_more, HasInts, ints_step, all_true}
-use Rattle.txs_types.specs.Offends.{Offence, twice, unknown, arity, mismatch, empty_type, big_type, IsWhole, whole_step, IsMiscalled, OffendsAt, Offends, unknown_call, wrong_number, from_nowhere, argument, stray_argument, other_type}
+use Rattle.txs_types.specs.Offends.{Offence, twice, unknown, arity, mismatch, empty_type, big_type, whole_step, IsMiscalled, OffendsAt, Offends, unknown_call, wrong_number, from_nowhere, argument, stray_argument, other_type}
 use Rattle.txs_types.specs.Files.{NotAfter}
 use Rattle.txs_types.specs.Answer.{offence_of, Told}
-use Rattle.txs_types.specs.Told.{Lesser}
 use Rattle.txs_types.specs.View.{want_of, wants_of, Judges, JudgesAt}
-use Rattle.txs_types.specs.Parts.{Typed, Whole, Means, Tells, Gathers, Argues, HaveInts, JudgesEach, call_type, Applies, IsMismade, CallsWith, stray_needs, Strays, StraysWith}
+use Rattle.txs_types.specs.Parts.{Typed, Whole, Gathers, Argues, HaveInts, JudgesEach, call_type, Applies, CallsWith, stray_needs, Strays, StraysWith}
 use Rattle.txs_types.proofs.Unique.{some_injective}
 use Rattle.txs_types.proofs.NotBoth.{none≢some, not_both}
 use Rattle.txs_types.proofs.Judged.{as_many_exprs}
 use Rattle.txs_types.proofs.Trees.{fold_call}
-use Rattle.txs_types.proofs.Inside.{Inside, i_call, i_number, i_nowhere, i_argument, i_stray, Other, split, at_none}
+use Rattle.txs_types.proofs.Inside.{Inside, i_call, i_number, i_nowhere, i_argument, i_stray, split, at_none}
 use Rattle.txs_types.proofs.ToldLaws.{told_same, told_either, told_left, told_right}
 use Rattle.txs_types.proofs.Finish.{told_mismatch, fault_of_parts, clean_at, no_offence}
 

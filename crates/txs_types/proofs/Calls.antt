@@ -1,5 +1,5 @@
 -- What a call means.
-use Rattle.std.proofs.Common.{◌≡◌, ℕ, zero, suc, List, [], ◌∷◌, ◌++◌, length, length-append, map, Option, Result, Ok, Err, MatchResult, refl, sym, ap, subst, ◌∙◌, arith, true, false, true≢false}
+use Rattle.std.proofs.Common.{◌≡◌, ℕ, List, [], ◌∷◌, ◌++◌, length, length-append, Option, Result, Ok, Err, MatchResult, refl, sym, ap, subst, ◌∙◌, arith, true, false, true≢false}
 use Rattle.txs_values.specs.Value.{Ty, named, cons, no_value}
 use Rattle.txs_terms.specs.declared.expr.Expr as rust_expr
 use Rattle.txs_terms.specs.Expr.{Expr, Unary, one, two, char_at, val, build}

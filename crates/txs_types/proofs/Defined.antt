@@ -4,7 +4,7 @@ use Rattle.std.proofs.lemmas.Option.{slice_get-map}
 use Rattle.std.proofs.lemmas.List.{length-map}
 use Rattle.std.specs.Prelude.{option_map}
 use Rattle.txs_values.specs.Value.{Ty, Table, place_of, place_from, field_types}
-use Rattle.txs_terms.specs.Typed.{Signature, IsType, AreTypes, Of}
+use Rattle.txs_terms.specs.Typed.{Signature, AreTypes, Of}
 use Rattle.txs_terms.specs.Defs.{Function, Constant, Definitions, HaveHeaders, HaveTypes, signatures_of, AreDefined}
 use Rattle.txs_syntax.specs.declared.ast.Name.{Name}
 use Rattle.txs_syntax.specs.declared.file.File.{File}
@@ -16,7 +16,7 @@ use Rattle.txs_types.specs.Files.{type_names, type_of, variables_of, constructor
 use Rattle.txs_types.specs.Laws.{HasTypes, FileHasInts, FileHasNames, MeantIsDefined}
 use Rattle.txs_types.proofs.Unique.{some_injective}
 use Rattle.txs_types.proofs.NotBoth.{none≢some}
-use Rattle.txs_types.proofs.Globals.{AreGood, good_append, good_constructors, get_behind, place_after}
+use Rattle.txs_types.proofs.Globals.{AreGood, good_append, good_constructors, place_after}
 use Rattle.txs_types.proofs.WellTyped.{Sound, typed, at_need}
 use Rattle.txs_types.proofs.FileLaws.{function_of, constant_of, definitions_of, IsRest, head_of, tail_of, all_of}
 use Rattle.txs_types.proofs.Tables.{NoOffence, AllKnown, all_known, same_length, known_type, known_variables, known_places, has_default, defined_left, defined_right}

@@ -1,5 +1,5 @@
 -- What is judged of a tree, from what is judged of its parts.
-use Rattle.std.proofs.Common.{◌≡◌, ◌⊎◌, ◌≤◌, ℕ, ℤ, Bool, true, ap, sym, subst, ◌∙◌, List, Option, Some, None, Result, Ok, Err, refl, inl, inr, arith}
+use Rattle.std.proofs.Common.{◌≡◌, ℕ, ℤ, Bool, true, ap, sym, subst, ◌∙◌, List, Option, Some, None, Result, Ok, Err, refl, inl, inr, arith}
 use Rattle.txs_values.specs.Value.{Ty, whole, string, num, text, fits}
 use Rattle.txs_values.specs.View.{ty_of}
 use Rattle.txs_terms.specs.declared.expr.Expr as rust_expr
@@ -11,7 +11,7 @@ use Rattle.txs_syntax.specs.declared.ast.Ast.TheVariants as tree
 use Rattle.txs_syntax.specs.declared.ast.Ast.TheOpen.{Ast-F}
 use Rattle.txs_types.specs.declared.fault.TypeFault.{TypeFault}
 use Rattle.txs_types.specs.declared.fault.TypeFault.TheVariants as fault
-use Rattle.txs_types.specs.Names.{Scope, Fits, meaning}
+use Rattle.txs_types.specs.Names.{Scope, meaning}
 use Rattle.txs_types.specs.Elaborates.{Suits, Elaborates, number, quoted, name, HasInts, ints_step}
 use Rattle.txs_types.specs.Offends.{Offence, unknown, mismatch, IsWhole, whole_step, first, OffendsAt, Offends, stands, other_type, unknown_name}
 use Rattle.txs_types.specs.Files.{NotAfter}
@@ -19,10 +19,9 @@ use Rattle.txs_types.specs.Answer.{Told}
 use Rattle.txs_types.specs.View.{Judges, JudgesAt}
 use Rattle.txs_types.specs.Parts.{Typed, Whole, Means, Tells}
 use Rattle.txs_types.proofs.Trees.{fold_number, fold_text, fold_name}
-use Rattle.txs_types.proofs.Unique.{some_injective}
-use Rattle.txs_types.proofs.NotBoth.{none≢some, not_both}
+use Rattle.txs_types.proofs.NotBoth.{not_both}
 use Rattle.txs_types.proofs.Inside.{Inside, i_name, Other, split, at_none, moved}
-use Rattle.txs_types.proofs.ToldLaws.{told_same, decides_told, told_decides, unknown_told}
+use Rattle.txs_types.proofs.ToldLaws.{told_same, unknown_told}
 
 pub ok_injective : {x y : rust_expr.Expr} → ◌≡◌ {A = Result rust_expr.Expr TypeFault} (Ok x) (Ok y) → x ≡ y
 ok_injective p = cc

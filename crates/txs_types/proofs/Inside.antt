@@ -1,5 +1,5 @@
 -- What offends in a tree, by its outermost form.
-use Rattle.std.proofs.Common.{◌≡◌, ◌≢◌, ◌⊎◌, ◌≤◌, ℕ, Bool, true, false, ap, sym, subst, ◌∙◌, List, [], ◌∷◌, length, slice_get, Option, Some, None, refl, inl, inr, arith, true≢false}
+use Rattle.std.proofs.Common.{◌≡◌, ◌≢◌, ◌⊎◌, ℕ, Bool, sym, subst, ◌∙◌, List, length, slice_get, Option, Some, None, refl, inl, inr, true≢false}
 use Rattle.txs_values.specs.Value.{Ty, whole, truth}
 use Rattle.txs_terms.specs.Expr.{Expr}
 use Rattle.txs_syntax.specs.declared.ast.Op.{Op}

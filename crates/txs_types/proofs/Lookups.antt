@@ -1,5 +1,5 @@
 -- Looking a name up in a list, from its front.
-use Rattle.std.proofs.Common.{◌≡◌, ℕ, suc, ◌+◌, ◌<◌, ◌≤◌, Bool, true, false, cond, List, [], ◌∷◌, length, map, drop, get_or, Option, Some, None, refl, sym, ap, ◌∙◌, add-one, drop-cons, bytes_eq, true≢false}
+use Rattle.std.proofs.Common.{◌≡◌, ℕ, suc, ◌+◌, ◌<◌, Bool, true, false, cond, List, [], ◌∷◌, length, map, drop, get_or, Option, Some, None, refl, sym, ap, add-one, drop-cons, bytes_eq, true≢false}
 use Rattle.txs_values.specs.declared.ty.Ty as rust_ty
 use Rattle.txs_values.specs.Value.{Ty}
 use Rattle.txs_values.specs.View.{ty_of}

@@ -1,9 +1,9 @@
 -- A query over definitions: the scope of its expression, and what is told of it.
-use Rattle.std.proofs.Common.{◌≡◌, ◌≢◌, ◌⊎◌, ℕ, true, false, refl, sym, ap, subst, ◌∙◌, inl, inr, suc, List, [], ◌∷◌, length, slice_get, Option, Some, None, Result, Ok, Err, IfOk, IfErr, MatchOption, true≢false}
+use Rattle.std.proofs.Common.{◌≡◌, ◌⊎◌, ℕ, refl, sym, ap, subst, ◌∙◌, inl, inr, suc, List, [], ◌∷◌, length, Option, Some, None, Result, Ok, Err, IfOk, IfErr, MatchOption}
 use Rattle.txs_values.specs.View.{ty_of}
-use Rattle.txs_values.specs.Value.{Ty, Value, Table, HasType, HaveTypes, field_types}
+use Rattle.txs_values.specs.Value.{Ty, Value, Table, HaveTypes, field_types}
 use Rattle.txs_terms.specs.Expr.{Expr, put, filled}
-use Rattle.txs_terms.specs.Eval.{eval, got, bad, wrong, height_limit}
+use Rattle.txs_terms.specs.Eval.{height_limit}
 use Rattle.txs_terms.specs.Typed.{AreTypes, Of}
 use Rattle.txs_terms.specs.Defs.{Definitions, bodies, signatures_of, AreDefined}
 use Rattle.txs_terms.specs.View.{expr_of}
@@ -16,9 +16,9 @@ use Rattle.txs_syntax.specs.declared.file.DeclList.{DeclList}
 use Rattle.txs_types.specs.declared.fault.TypeFault.{TypeFault}
 use Rattle.txs_types.specs.declared.typed.Typed as rust_typed
 use Rattle.txs_types.specs.Names.{Variable, Global, Scope, scope_of}
-use Rattle.txs_types.specs.Elaborates.{Elaborates, HasInts}
-use Rattle.txs_types.specs.Offends.{Offence, twice, unknown, Offends}
-use Rattle.txs_types.specs.Files.{Repeats, names_in, types_used, is_undefined, variables_of, names_of, query_scope, QueryOffends, twice_declared, unknown_declared, in_expression}
+use Rattle.txs_types.specs.Elaborates.{Elaborates}
+use Rattle.txs_types.specs.Offends.{Offence, unknown, Offends}
+use Rattle.txs_types.specs.Files.{names_in, types_used, is_undefined, variables_of, names_of, query_scope, QueryOffends, twice_declared, unknown_declared, in_expression}
 use Rattle.txs_types.specs.Laws.{IsNeed, HasTypes}
 use Rattle.txs_types.specs.Answer.{Told, IsSafe}
 use Rattle.txs_types.specs.Told.{Added, Finds}
@@ -26,7 +26,7 @@ use Rattle.txs_types.specs.View.{Judges}
 use Rattle.txs_types.specs.Queries.{DeclarationOffends, twice_there, unknown_there, Decided}
 use Rattle.txs_types.proofs.NotBoth.{not_both}
 use Rattle.txs_types.proofs.WellTyped.{elaborated_is_typed}
-use Rattle.txs_types.proofs.Tables.{AllDefined, all_defined, not_true, known_variables}
+use Rattle.txs_types.proofs.Tables.{all_defined, not_true, known_variables}
 use Rattle.txs_types.proofs.ToldLaws.{Either, told_same, told_left, told_right, told_either, finds_same, finds_added, none_of_both, only_left}
 use Rattle.txs_types.proofs.NameLaws.{UnknownAmong, RepeatsAmong}
 

@@ -3,7 +3,7 @@ use Rattle.std.proofs.Common.{◌≡◌, ◌⊎◌, ℕ, Bool, true, false, cond
 use Rattle.txs_values.specs.Value.{Ty, whole, truth}
 use Rattle.txs_values.specs.View.{ty_of}
 use Rattle.txs_terms.specs.declared.expr.Expr as rust_expr
-use Rattle.txs_terms.specs.Expr.{Expr, one, negate, choose, let_in, two, equal, differ}
+use Rattle.txs_terms.specs.Expr.{Expr, one, negate, choose, let_in}
 use Rattle.txs_terms.specs.View.{expr_of}
 use Rattle.txs_syntax.specs.declared.ast.Op.{Op}
 use Rattle.txs_syntax.specs.declared.ast.Op.TheVariants as op
@@ -17,7 +17,7 @@ use Rattle.txs_types.specs.declared.fault.TypeFault.TheVariants as fault
 use Rattle.txs_types.specs.Names.{Scope, anything, inside}
 use Rattle.txs_types.specs.Elaborates.{Suits, right_first, Operator, or_operator, and_operator, less_operator, at_most_operator, more_operator, at_least_operator, join_operator, plus_operator, minus_operator, times_operator, divide_operator, remainder_operator, Comparison, equal_comparison, different_comparison, Elaborates, negated, operated, compared, compared_back, grouped, chosen, chosen_freely, bound, HasInts, ints_step}
 use Rattle.txs_types.specs.Offends.{Offence, IsWhole, whole_step, earlier, later, OffendsAt, Offends, Shows, as_typed, as_anything, negated as side_negated, left, right, earlier_side, later_side, grouped as in_brackets, condition, then_branch, else_branch, else_like_then, bound_value, body}
-use Rattle.txs_types.specs.Answer.{offence_of, Told}
+use Rattle.txs_types.specs.Answer.{Told}
 use Rattle.txs_types.specs.Told.{Lesser, memory_first, left_first, right_first as second_first, Joined}
 use Rattle.txs_types.specs.View.{Judges, JudgesAt}
 use Rattle.txs_types.specs.Parts.{Typed, operand, outcome, make, shown, Whole, Made, MadeTyped, choice_type, Tells, Means, InOrder, OffendInOrder, Sides, Turned}
@@ -25,7 +25,7 @@ use Rattle.txs_types.proofs.Unique.{some_injective, unique, same_operator, no_op
 use Rattle.txs_types.proofs.NotBoth.{none≢some, not_both}
 use Rattle.txs_types.proofs.Trees.{fold_negate, fold_binary, fold_group, fold_if, fold_let}
 use Rattle.txs_types.proofs.Inside.{Inside, i_negated, i_left, i_right, i_earlier, i_later, i_grouped, i_condition, i_then, i_else, i_like_then, i_value, i_body, Other, split}
-use Rattle.txs_types.proofs.ToldLaws.{Either, told_same, told_either, told_left, told_right, none_of_both, told_decides}
+use Rattle.txs_types.proofs.ToldLaws.{Either, told_same, told_either, told_left, told_right, none_of_both}
 use Rattle.txs_types.proofs.Finish.{ok_injective, ok≢err, tells_of, no_offence, finish_whole, fault_of_parts}
 
 -- ---- two results

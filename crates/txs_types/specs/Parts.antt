@@ -1,10 +1,9 @@
 -- Within the crate: what the small functions of typing give.
 use Rattle.std.specs.Prelude.{◌≡◌, ◌⊎◌, ℕ, true, false, List, [], ◌∷◌, ◌++◌, Option, Some, None, Result, Ok, Err}
-use Rattle.txs_values.specs.declared.ty.Ty as rust_ty
 use Rattle.txs_values.specs.Value.{Ty, whole, truth, string, named}
 use Rattle.txs_values.specs.View.{ty_of}
 use Rattle.txs_terms.specs.declared.expr.Expr as rust_expr
-use Rattle.txs_terms.specs.Expr.{Expr, one, two, equal, both, either, choose, let_in, negate, plus, minus, times, divide, remainder, concat, differ, less_than, at_most, more_than, at_least}
+use Rattle.txs_terms.specs.Expr.{Expr, two, equal, both, either, plus, minus, times, divide, remainder, concat, differ, less_than, at_most, more_than, at_least}
 use Rattle.txs_terms.specs.View.{expr_of, exprs_of}
 use Rattle.txs_syntax.specs.declared.ast.Op.{Op}
 use Rattle.txs_syntax.specs.declared.ast.Op.TheVariants as op

@@ -1,9 +1,9 @@
 -- Within the crate: which of two faults goes first, and what is made of two results.
-use Rattle.std.specs.Prelude.{◌≡◌, ◌⊎◌, ◌<◌, ◌≤◌, ℕ, Option, Some, None, Result, Ok, Err}
+use Rattle.std.specs.Prelude.{◌≡◌, ◌⊎◌, ◌<◌, ℕ, Option, Some, None, Result, Ok, Err}
 use Rattle.txs_types.specs.declared.fault.TypeFault.{TypeFault}
 use Rattle.txs_types.specs.declared.fault.TypeFault.TheVariants as fault
 use Rattle.txs_types.specs.Offends.{Offence}
-use Rattle.txs_types.specs.Answer.{offence_of, Told}
+use Rattle.txs_types.specs.Answer.{Told}
 
 -- the place of a fault, and its rank among those at one place
 abbrev pub order : TypeFault → Option (ℕ × ℕ)

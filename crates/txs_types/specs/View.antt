@@ -1,12 +1,11 @@
 -- Within the crate: what the program's names, scopes and results stand for.
-use Rattle.std.specs.Prelude.{◌≡◌, ℕ, List, [], ◌∷◌, map, Option, Some, None, option_map, Result, Ok, Err, slice_get}
+use Rattle.std.specs.Prelude.{ℕ, List, map, Option, option_map, Result, Ok, Err}
 use Rattle.txs_values.specs.declared.ty.Ty as rust_ty
 use Rattle.txs_values.specs.Value.{Ty}
 use Rattle.txs_values.specs.View.{ty_of}
 use Rattle.txs_values.specs.TableView.{field_of}
-use Rattle.txs_terms.specs.declared.expr.Expr as rust_expr
 use Rattle.txs_terms.specs.Expr.{Expr}
-use Rattle.txs_terms.specs.View.{expr_of, exprs_of}
+use Rattle.txs_terms.specs.View.{expr_of}
 use Rattle.txs_syntax.specs.declared.ast.Ast.{Ast}
 use Rattle.txs_types.specs.declared.fault.TypeFault.{TypeFault}
 use Rattle.txs_types.specs.declared.meaning.Meaning as rust_meaning
@@ -15,9 +14,9 @@ use Rattle.txs_types.specs.declared.meaning.GlobalName as rust_global
 use Rattle.txs_types.specs.declared.scope.Scope as rust_scope
 use Rattle.txs_types.specs.declared.scope.Called as rust_called
 use Rattle.txs_types.specs.declared.typed.Typed as rust_typed
-use Rattle.txs_types.specs.Names.{Meaning, named_value, named_constant, named_function, named_constructor, named_test, named_selector, named_not, named_to_string, named_from_string, named_len, named_at, Global, Scope, anything}
-use Rattle.txs_types.specs.Elaborates.{Elaborates, ElaboratesEach, HasInts}
-use Rattle.txs_types.specs.Offends.{Offence, OffendsAt, Offends}
+use Rattle.txs_types.specs.Names.{Meaning, named_value, named_constant, named_function, named_constructor, named_test, named_selector, named_not, named_to_string, named_from_string, named_len, named_at, Global, Scope}
+use Rattle.txs_types.specs.Elaborates.{Elaborates, HasInts}
+use Rattle.txs_types.specs.Offends.{OffendsAt, Offends}
 use Rattle.txs_types.specs.Answer.{Told}
 
 abbrev pub want_of : Option rust_ty.Ty → Option Ty

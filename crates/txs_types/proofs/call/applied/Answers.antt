@@ -1,13 +1,12 @@
-use Rattle.std.proofs.Common.{◌≡◌, [], ◌∷◌, ap, sym, subst, map, MatchResult}
-use Rattle.txs_values.specs.Value.{Ty, whole, truth, string, named}
+use Rattle.std.proofs.Common.{◌≡◌, [], ◌∷◌, sym, subst, map, MatchResult}
 use Rattle.txs_values.specs.View.{ty_of}
-use Rattle.txs_terms.specs.Expr.{Expr, one, two, char_at, is_made_by, select, negation, to_text, from_text, len}
+use Rattle.txs_terms.specs.Expr.{one, two, char_at, is_made_by, select, negation, to_text, from_text, len}
 use Rattle.txs_terms.specs.View.{expr_of, exprs_of, gathered}
 use Rattle.txs_terms.specs.Expr.{apply}
 use Rattle.txs_terms.specs.declared.expr.Expr.TheVariants as rust_call
 use Rattle.txs_types.specs.declared.meaning.Meaning as rust_meaning
 use Rattle.txs_types.specs.declared.fault.TypeFault.TheVariants as fault
-use Rattle.txs_types.specs.Names.{Meaning, named_function, named_test, named_selector, named_not, named_to_string, named_from_string, named_len, named_at}
+use Rattle.txs_types.specs.Names.{named_function, named_test, named_selector, named_not, named_to_string, named_from_string, named_len, named_at}
 use Rattle.txs_types.specs.Elaborates.{Makes, function_made, test_made, selector_made, not_made, to_string_made, from_string_made, len_made, at_made}
 use Rattle.txs_types.specs.View.{meaning_of}
 use Rattle.txs_types.proofs.Unique.{some_injective}

@@ -1,4 +1,4 @@
-use Rattle.std.proofs.Common.{ap, sym, ◌∙◌}
+use Rattle.std.proofs.Common.{ap, ◌∙◌}
 use Rattle.txs_types.specs.View.{scope_of, wants_of}
 use Rattle.txs_types.proofs.CallNodes.{strays_more}
 use Rattle.txs_types.proofs.call.stray_needs.Goals as goal

@@ -1,6 +1,6 @@
-use Rattle.std.proofs.Common.{rules, ◌≡◌, ◌+◌, ap, sym, subst, ◌∙◌, refl, Some, None, Option, true, false, List, [], length, get_or, IfOk, arith, FitsSigned}
+use Rattle.std.proofs.Common.{rules, ◌≡◌, ◌+◌, ap, sym, subst, ◌∙◌, refl, Some, None, true, false, [], length, get_or, IfOk, arith, FitsSigned}
 use Rattle.std.proofs.lemmas.Int.{to_z-of_z}
-use Rattle.std.proofs.lemmas.List.{length-map, take_all}
+use Rattle.std.proofs.lemmas.List.{length-map}
 use Rattle.std.specs.Int.{w128}
 use Rattle.std.specs.Prelude.{option_map}
 use Rattle.txs_values.specs.View.{ty_of}
@@ -14,7 +14,7 @@ use Rattle.txs_types.specs.Elaborates.{right_first}
 use Rattle.txs_types.specs.Offends.{Offends}
 use Rattle.txs_types.proofs.ToldLaws.{Either}
 use Rattle.txs_types.specs.View.{scope_of, want_of, wants_of, called_of, Judges, JudgesAt}
-use Rattle.txs_types.specs.Parts.{Means, Tells, InOrder, OffendInOrder, JudgesEach, CallsWith, Whole, shown, operand, outcome, stray_needs}
+use Rattle.txs_types.specs.Parts.{Means, Tells, InOrder, OffendInOrder, JudgesEach, CallsWith, Whole, shown}
 use Rattle.txs_types.proofs.Judged.{taken}
 use Rattle.txs_types.proofs.Finish.{judges_of, tells_of}
 use Rattle.txs_types.proofs.CallNodes.{each_step, as_many_found, calls_node, unknown_node, arity_node, strays_told, strays_judged, length_strays}

@@ -1,10 +1,8 @@
-use Rattle.std.proofs.Common.{◌∙◌, ap, sym, subst, Some, None, Ok, map}
+use Rattle.std.proofs.Common.{◌∙◌, ap, sym, subst, map}
 use Rattle.txs_values.specs.View.{ty_of}
-use Rattle.txs_terms.specs.View.{exprs_of}
 use Rattle.txs_types.specs.View.{scope_of, want_of, called_of}
 use Rattle.txs_types.specs.Parts.{CallsWith}
 use Rattle.txs_types.proofs.CallNodes.{calls_whole}
-use Rattle.txs_types.proofs.Sides.{tells_behind}
 use Rattle.txs_types.proofs.leaf.called_with.Goals as goal
 
 pub returns-in-Some : goal.returns-in-Some

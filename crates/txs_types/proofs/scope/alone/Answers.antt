@@ -1,4 +1,4 @@
-use Rattle.std.proofs.Common.{◌≡◌, ◌∙◌, ap, sym, map}
+use Rattle.std.proofs.Common.{◌∙◌, ap, sym, map}
 use Rattle.txs_values.specs.View.{ty_of}
 use Rattle.txs_types.specs.Names as names
 use Rattle.txs_types.specs.View.{meaning_of}

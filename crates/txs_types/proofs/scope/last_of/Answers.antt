@@ -1,4 +1,4 @@
-use Rattle.std.proofs.Common.{◌≡◌, ◌∙◌, ℕ, ◌+◌, ap, sym, Some, Option, map, drop, refl, arith, bytes_eq}
+use Rattle.std.proofs.Common.{◌∙◌, ℕ, ◌+◌, ap, sym, Some, Option, map, drop, refl, bytes_eq}
 use Rattle.std.specs.Prelude.{option_map}
 use Rattle.txs_values.specs.declared.ty.Ty as rust_ty
 use Rattle.txs_values.specs.Value.{Ty}

@@ -1,4 +1,4 @@
-use Rattle.std.proofs.Common.{◌≡◌, drop, map, None, Some}
+use Rattle.std.proofs.Common.{◌≡◌, drop, map}
 use Rattle.std.specs.Prelude.{option_map}
 use Rattle.txs_values.specs.View.{ty_of}
 use Rattle.txs_values.specs.TableView.{field_of}

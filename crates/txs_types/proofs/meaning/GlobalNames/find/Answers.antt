@@ -1,6 +1,5 @@
-use Rattle.std.proofs.Common.{◌≡◌, ◌∙◌, ap, sym, subst, Some, true, false, refl, bytes_eq}
-use Rattle.txs_types.specs.View.{global_of, globals_of}
-use Rattle.txs_types.specs.Names as names
+use Rattle.std.proofs.Common.{◌∙◌, ap, sym, Some, refl, bytes_eq}
+use Rattle.txs_types.specs.View.{global_of}
 use Rattle.txs_types.proofs.Lookups.{other_name, same_name}
 use Rattle.txs_types.proofs.Tests.{same_text, other_text}
 use Rattle.txs_types.proofs.meaning.GlobalNames.find.Goals as goal
