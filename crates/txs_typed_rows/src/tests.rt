@@ -1,0 +1,46 @@
+use crate::{functions, said};
+use std::test::Fail;
+
+/// Expressions over f, and what is said of them.
+const ROWS: [(&str, &str); 30] = [
+    ("7 / -2", "-3"),
+    ("-7 % 2", "-1"),
+    ("1 / 0", "Division"),
+    ("170141183460469231731687303715884105727 + 1", "Range"),
+    ("f(498)", "0"),
+    ("f(499)", "High"),
+    ("f(True)", "Mismatch 2"),
+    ("f()", "Arity 0"),
+    ("f(nope, 1)", "Arity 0"),
+    ("f", "Unknown 0"),
+    ("f(nope)", "Unknown 2"),
+    ("1 == True", "Mismatch 5"),
+    ("fromString(\"1\") == 2", "False"),
+    ("fromString(\"4x\") == 1", "Form"),
+    ("fromString(\"1\")", "Mismatch 0"),
+    ("fromString(\"1\") == fromString(\"1\")", "Mismatch 0"),
+    ("LET x = 1; x = x + 1 IN x * 10 NI", "20"),
+    ("LET x = x IN 1 NI", "Unknown 8"),
+    ("LET f = 2 IN f(f) NI", "0"),
+    ("LET x = fromString(\"1\") IN x NI", "Mismatch 8"),
+    ("IF True THEN 1 ELSE \"x\" FI", "Mismatch 20"),
+    ("(1 + 2) ++ \"a\"", "Mismatch 0"),
+    ("nope + (other - True)", "Unknown 0"),
+    ("1 + (True ++ nope)", "Mismatch 5"),
+    ("False /\\ 1 / 0 == 1", "False"),
+    ("True \\/ 1 / 0 == 1", "True"),
+    ("at(\"abc\", 3)", "Selector"),
+    ("toString(3) ++ \"x\"", "\"3x\""),
+    ("len(toString(f(3)) ++ at(\"aé\", 1))", "2"),
+    ("not(1)", "Mismatch 4"),
+];
+
+#[test]
+fn rows(rt: HostRuntime) -> Result<(), Fail> {
+    let alloc = rt.alloc();
+    let defs = functions(alloc, "f", "n", "IF n == 0 THEN 0 ELSE f(n - 1) FI")?;
+    for (text, wanted) in ROWS {
+        assert_eq!(rt; said(alloc, &defs, text)?.as_str(), wanted, "{text}");
+    }
+    Ok(())
+}
