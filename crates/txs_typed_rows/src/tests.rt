@@ -1,4 +1,4 @@
-use crate::{functions, said};
+use crate::{function, queue, said};
 use std::test::Fail;
 
 /// Expressions over f, and what is said of them.
@@ -38,8 +38,37 @@ const ROWS: [(&str, &str); 30] = [
 #[test]
 fn rows(rt: HostRuntime) -> Result<(), Fail> {
     let alloc = rt.alloc();
-    let defs = functions(alloc, "f", "n", "IF n == 0 THEN 0 ELSE f(n - 1) FI")?;
+    let defs = function(alloc, "f", "n", "IF n == 0 THEN 0 ELSE f(n - 1) FI")?;
     for (text, wanted) in ROWS {
+        assert_eq!(rt; said(alloc, &defs, text)?.as_str(), wanted, "{text}");
+    }
+    Ok(())
+}
+
+/// Expressions over queues, and what is said of them.
+const QUEUES: [(&str, &str); 14] = [
+    ("add(add(Nil, 1), 2)", "Cell(1,Cell(2,Nil))"),
+    ("add(one, 8)", "Cell(7,Cell(8,Nil))"),
+    ("hd(Nil)", "Selector"),
+    ("hd(tl(add(one, 8)))", "8"),
+    ("isCell(one)", "True"),
+    ("isNil(one)", "False"),
+    ("tl(one) == Nil()", "True"),
+    ("fromString(\"Cell(7,Nil)\") == one", "True"),
+    ("toString(one)", "\"Cell(7,Nil)\""),
+    ("add(1, 1)", "Mismatch 4"),
+    ("Cell(1)", "Arity 0"),
+    ("Cell", "Unknown 0"),
+    ("one()", "Unknown 0"),
+    ("LET one = 1 IN one + hd(Cell(True, Nil)) NI", "Mismatch 29"),
+];
+
+#[test]
+fn queues(rt: HostRuntime) -> Result<(), Fail> {
+    let alloc = rt.alloc();
+    let add = "IF isNil(q) THEN Cell(n, Nil) ELSE Cell(hd(q), add(tl(q), n)) FI";
+    let defs = queue(alloc, add, "Cell(7, Nil)")?;
+    for (text, wanted) in QUEUES {
         assert_eq!(rt; said(alloc, &defs, text)?.as_str(), wanted, "{text}");
     }
     Ok(())

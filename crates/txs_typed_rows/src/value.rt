@@ -1,14 +1,13 @@
-ghost use Rattle.std.specs.Prelude.{◌≡◌, IfOk, [], ◌∷◌};
-ghost use Rattle.txs_syntax.specs.declared.file.Def.TheVariants as def;
 ghost use Rattle.txs_types.specs.Laws.{FileHasNames};
 
+use crate::file::{file_of, queue_file};
 use crate::told::{eval_fault, type_fault};
 use sqlite_items::Items;
 use std::alloc::{AllocError, AllocFailed, Global};
 use txs_eval::eval;
 use txs_lexer::lex;
 use txs_parse_expr::parse_expr;
-use txs_syntax::{Ast, Decl, DeclList, Def, File, Name};
+use txs_syntax::{Ast, DeclList, File};
 use txs_terms::Defs;
 use txs_types::{TypeFault, type_defs, type_query};
 use txs_values::{NoMemory, Text, Value, Values, text_of};
@@ -55,51 +54,32 @@ fn tree_of(alloc: Global, text: &str) -> Result<Ast, RowFault> {
     }
 }
 
-fn name(alloc: Global, at: usize, text: &str) -> Result<Name, NoMemory> {
-    let text = Text::from_str(alloc, text)?;
-    Ok(Name { at, text })
-}
-
-/// Parameters of Int.
-fn ints(alloc: Global, at: usize, parameter: &str) -> Result<DeclList, NoMemory> {
-    let mut names = Items::new(alloc);
-    names.push(name(alloc, at, parameter)?)?;
-    let ty = name(alloc, at, "Int")?;
-    let mut decls = Items::new(alloc);
-    decls.push(Decl { names, ty })?;
-    Ok(DeclList { decls })
-}
-
-/// A file of one function, from Int to Int.
-fn file_of(alloc: Global, function: &str, parameter: &str, body: Ast) -> Result<File, NoMemory>
-    ensures { IfOk result (λ f. FileHasNames f) }
+fn defs_of(alloc: Global, file: &File) -> Result<Defs, RowFault>
+    requires { FileHasNames file.now }
 {
-    let name = name(alloc, 0, function)?;
-    let params = ints(alloc, 0, parameter)?;
-    let result = self::name(alloc, 0, "Int")?;
-    let mut defs = Items::new(alloc);
-    defs.push(Def::FuncDef {
-        name,
-        params,
-        result,
-        body,
-    })?;
-    Ok(File { defs })
+    match type_defs(alloc, file) {
+        Ok(defs) => Ok(defs),
+        Err(TypeFault::NoMemory) => Err(RowFault::NoMemory),
+        Err(fault) => Err(RowFault::Types(fault)),
+    }
 }
 
 /// The definitions of one function, from Int to Int.
-pub fn functions(
+pub fn function(
     alloc: Global,
     function: &str,
     parameter: &str,
     body: &str,
 ) -> Result<Defs, RowFault> {
     let file = file_of(alloc, function, parameter, tree_of(alloc, body)?)?;
-    match type_defs(alloc, &file) {
-        Ok(defs) => Ok(defs),
-        Err(TypeFault::NoMemory) => Err(RowFault::NoMemory),
-        Err(fault) => Err(RowFault::Types(fault)),
-    }
+    defs_of(alloc, &file)
+}
+
+/// The definitions of TYPEDEF Q ::= Nil | Cell { hd :: Int; tl :: Q } ENDDEF, of a function add (q :: Q; n :: Int) :: Q and of a constant one :: Q.
+pub fn queue(alloc: Global, add: &str, one: &str) -> Result<Defs, RowFault> {
+    let add = tree_of(alloc, add)?;
+    let file = queue_file(alloc, add, tree_of(alloc, one)?)?;
+    defs_of(alloc, &file)
 }
 
 /// What is said of an expression over definitions: its value, or its offence with the place, or the fault of its evaluation.
