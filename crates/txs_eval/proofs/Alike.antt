@@ -1,6 +1,5 @@
 -- Comparing the fields of two values.
-use Rattle.std.proofs.Common.{◌≡◌, ◌≢◌, ℕ, suc, ◌+◌, ◌<◌, Bool, true, false, ◌&&◌, List, [], ◌∷◌, length, drop, get_or, refl, sym, ap, ◌∙◌, add-one, drop-cons, arith}
-use Rattle.std.proofs.lemmas.List.{drop_all}
+use Rattle.std.proofs.Common.{◌≡◌, ◌≢◌, ℕ, suc, ◌+◌, ◌<◌, Bool, true, false, ◌&&◌, List, [], ◌∷◌, length, drop, get_or, refl, ap, add-one, drop-cons}
 use Rattle.txs_values.specs.declared.value.Value as rust
 use Rattle.txs_values.specs.Value.{packed, same_value, same_each}
 use Rattle.txs_values.specs.View.{value_of, values_of}

@@ -1,7 +1,7 @@
 -- Counting the characters of a text, and finding one of them.
-use Rattle.std.proofs.Common.{◌≡◌, ℕ, zero, suc, ◌≤◌, List, [], ◌∷◌, ◌++◌, length, Option, Some, None, MatchOption, refl, sym, ap, ◌∙◌, subst, slice_get, IsUtf8, chars}
+use Rattle.std.proofs.Common.{◌≡◌, ℕ, ◌≤◌, List, [], ◌∷◌, ◌++◌, length, Option, Some, None, refl, sym, ap, ◌∙◌, subst, slice_get, IsUtf8, chars}
 use Rattle.std.specs.Str.Iter.{chars_rest, chars_steps}
-use Rattle.std.specs.Iterator.{Yields, YieldsThen, Drains, SkipsThenYields}
+use Rattle.std.specs.Iterator.{Yields, Drains, SkipsThenYields}
 use Rattle.std.proofs.lemmas.Str.{chars_past_char, IsUtf8-past_char, chars-nil}
 use Rattle.std.proofs.lemmas.List.{append-nil}
 use Rattle.std.proofs.lemmas.Option.{slice_get_past}

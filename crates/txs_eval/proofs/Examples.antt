@@ -1,7 +1,7 @@
 -- Definitions of one function that are well typed, and expressions over them.
 use Rattle.std.proofs.Common.{◌≡◌, ℕ, zero, suc, ◌<◌, ℤ, pos, true, List, [], ◌∷◌, Option, None, Some, refl, sym, subst, arith, slice_get, FitsSigned, codes}
 use Rattle.std.specs.Int.{w128}
-use Rattle.txs_values.specs.Value.{Ty, whole, string, named, Table, Constructor, TypeDef, Place, place_of, field_types, num, cons, no_value, fits, Value}
+use Rattle.txs_values.specs.Value.{Ty, whole, string, named, Table, Constructor, Place, place_of, field_types, num, cons, no_value, fits, Value}
 use Rattle.txs_values.specs.Default.{default_if}
 use Rattle.txs_values.specs.Spelled.{IsName, IsNamed}
 use Rattle.txs_terms.specs.declared.defs.FunctionDef as rust_function

@@ -6,19 +6,15 @@ use Rattle.std.proofs.lemmas.Option.{slice_get-map, slice_get-get_or, slice_get_
 use Rattle.std.specs.Option.{option_map}
 use Rattle.txs_values.specs.declared.value.Value as rust
 use Rattle.txs_values.specs.declared.value.Value.TheVariants as rust_variant
-use Rattle.txs_values.specs.Value.{Value, Table, cons, listed, packed}
+use Rattle.txs_values.specs.Value.{Value, Table, listed, packed}
 use Rattle.txs_values.specs.View.{value_of, values_of}
-use Rattle.txs_terms.specs.declared.expr.Expr as rust_expr
-use Rattle.txs_terms.specs.declared.expr.Expr.TheOpen.{Expr-F}
-use Rattle.txs_terms.specs.declared.expr.Expr.TheFolds.{fold-roll-Expr}
-use Rattle.txs_terms.specs.declared.expr.Expr.TheVariants as variant
 use Rattle.txs_terms.specs.declared.defs.FunctionDef as rust_function
 use Rattle.txs_terms.specs.declared.defs.ConstantDef as rust_constant
-use Rattle.txs_terms.specs.Expr.{Expr, select, constant, apply, build, let_in}
-use Rattle.txs_terms.specs.Eval.{Defs, Run, got, bad, Runs, gots, bads, Outcome, fine, broken, wrong, selector, selected, unary, sized, after, then_run, then_runs, body_run}
+use Rattle.txs_terms.specs.Expr.{Expr, select, constant, apply}
+use Rattle.txs_terms.specs.Eval.{Run, bad, Runs, gots, bads, broken, wrong, selector, selected, unary, then_runs, body_run}
 use Rattle.txs_terms.specs.Under.{Environment, Under, each_under, operands, parameters, with_variable, node_under}
 use Rattle.txs_terms.specs.Defs.{bodies}
-use Rattle.txs_terms.specs.View.{expr_of, exprs_of, expr_step, gathered, function_of, constant_of, definitions_of, Held}
+use Rattle.txs_terms.specs.View.{expr_of, gathered, function_of, constant_of, definitions_of, Held}
 use Rattle.txs_eval.specs.declared.fault.Stop.{Stop}
 use Rattle.txs_eval.specs.declared.fault.Stop.TheVariants as stop
 use Rattle.txs_eval.specs.Answer.{Stopped, around}

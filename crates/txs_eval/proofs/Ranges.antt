@@ -1,10 +1,10 @@
 -- A number that was worked out is one of Int, or past its range.
-use Rattle.std.proofs.Common.{◌≡◌, ◌^◌, ℤ, Bool, true, false, cond, refl, sym, ap, ◌∙◌, FitsSigned}
+use Rattle.std.proofs.Common.{◌≡◌, ◌^◌, ℤ, Bool, true, false, cond, refl, ap, FitsSigned}
 use Rattle.std.proofs.lemmas.Bool.Decides.{Decides-ltb}
 use Rattle.std.specs.Int.{w128}
 use Rattle.std.specs.Int.Signed.{mag}
 use Rattle.txs_values.specs.Value.{fits, num}
-use Rattle.txs_terms.specs.Eval.{Outcome, in_range, fine, broken, range}
+use Rattle.txs_terms.specs.Eval.{in_range, fine, broken, range}
 
 pub fits_true : (z : ℤ) → FitsSigned w128 z → fits z ≡ true
 unfolding fits

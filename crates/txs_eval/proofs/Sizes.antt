@@ -1,5 +1,5 @@
 -- A value against the limits of size and height.
-use Rattle.std.proofs.Common.{◌≡◌, ℕ, ◌<◌, ◌≤◌, Bool, true, false, cond, ltb, min, refl, arith}
+use Rattle.std.proofs.Common.{◌≡◌, ◌<◌, ◌≤◌, true, false, ltb, min, refl, arith}
 use Rattle.std.proofs.lemmas.Bool.{lt-ltb, le-ltb}
 use Rattle.txs_values.specs.Measure.{u64_max}
 use Rattle.txs_values.specs.Value.{Value, size, height, value_size_limit, value_height_limit}

@@ -1,13 +1,11 @@
 -- One step of an evaluation: the limits, a body, and several expressions in turn.
-use Rattle.std.proofs.Common.{◌≡◌, ℕ, zero, suc, ◌+◌, ◌-◌, ◌<◌, ◌≤◌, true, false, ltb, List, [], ◌∷◌, ◌++◌, map, length, get_or, drop, Some, None, refl, sym, ap, ◌∙◌, arith, add-one, append_assoc, drop-cons, slice_get}
+use Rattle.std.proofs.Common.{◌≡◌, ℕ, zero, suc, ◌+◌, ◌-◌, ◌<◌, ◌≤◌, true, false, ltb, List, [], ◌∷◌, ◌++◌, length, get_or, drop, refl, sym, ap, arith, add-one, append_assoc, drop-cons}
 use Rattle.std.proofs.lemmas.Bool.{lt-ltb, le-ltb}
 use Rattle.std.proofs.lemmas.List.{append-nil, drop_all}
-use Rattle.std.proofs.lemmas.Option.{slice_get-map, slice_get-get_or, slice_get_past}
-use Rattle.std.specs.Option.{option_map}
 use Rattle.txs_values.specs.Value.{Value}
 use Rattle.txs_terms.specs.declared.expr.Expr as rust_expr
 use Rattle.txs_terms.specs.Expr.{Expr}
-use Rattle.txs_terms.specs.Eval.{Defs, Run, got, bad, Runs, gots, bads, Fault, high, long, node_limit, with_first, cons_run}
+use Rattle.txs_terms.specs.Eval.{Defs, Run, got, bad, Runs, gots, bads, Fault, high, long, node_limit, with_first}
 use Rattle.txs_terms.specs.Under.{Environment, each_under, node_under, run_under}
 use Rattle.txs_terms.specs.View.{expr_of, exprs_of}
 

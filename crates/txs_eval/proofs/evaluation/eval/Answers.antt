@@ -1,4 +1,4 @@
-use Rattle.std.proofs.Common.{◌≡◌, [], subst, sym, ap, ◌∙◌}
+use Rattle.std.proofs.Common.{◌≡◌, [], subst, ◌∙◌}
 use Rattle.txs_values.specs.View.{value_of, values_of}
 use Rattle.txs_terms.specs.Defs.{bodies}
 use Rattle.txs_terms.specs.Eval.{bad, got}

@@ -171,15 +171,20 @@ fn five_and_six(alloc: Global) -> Result<Expr, NoMemory> {
     longer(alloc, int(5), longer(alloc, int(6), nil(alloc))?)
 }
 
+/// The queue with the number behind its last cell.
+fn grown(alloc: Global, queue: Expr, number: i128) -> Result<Text, NoMemory> {
+    let defs = queue_defs(alloc)?;
+    let expr = added(alloc, queue, int(number))?;
+    said(alloc, &defs, &expr)
+}
+
 #[test]
 fn queues_grow_at_their_end(rt: HostRuntime) -> Result<(), Fail> {
     let alloc = rt.alloc();
-    let defs = queue_defs(alloc)?;
-    let expr = added(alloc, nil(alloc), int(1))?;
-    assert_eq!(rt; said(alloc, &defs, &expr)?.as_str(), "Cell(1,Nil)");
-    let expr = added(alloc, five_and_six(alloc)?, int(-7))?;
-    let wanted = "Cell(5,Cell(6,Cell(-7,Nil)))";
-    assert_eq!(rt; said(alloc, &defs, &expr)?.as_str(), wanted);
+    let one = grown(alloc, nil(alloc), 1)?;
+    assert_eq!(rt; one.as_str(), "Cell(1,Nil)");
+    let three = grown(alloc, five_and_six(alloc)?, -7)?;
+    assert_eq!(rt; three.as_str(), "Cell(5,Cell(6,Cell(-7,Nil)))");
     Ok(())
 }
 
