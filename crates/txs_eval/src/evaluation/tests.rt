@@ -7,7 +7,6 @@ ghost use Rattle.txs_eval.specs.Answer.{IsTyped};
 mod forms;
 mod functions;
 mod operators;
-mod queues;
 
 use super::*;
 use std::test::Fail;
