@@ -42,13 +42,13 @@ HaveHeaders table [] = Unit {0}
 HaveHeaders table (f ∷ fs) = (AreTypes table f.takes × IsType table f.gives) × HaveHeaders table fs
 
 -- the type of each constant is of the table
-abbrev pub HaveTypes : Table → List Constant → Type 0
-HaveTypes table [] = Unit {0}
-HaveTypes table (k ∷ ks) = IsType table k.ty × HaveTypes table ks
+abbrev pub HaveConstantTypes : Table → List Constant → Type 0
+HaveConstantTypes table [] = Unit {0}
+HaveConstantTypes table (k ∷ ks) = IsType table k.ty × HaveConstantTypes table ks
 
--- each header is of types of the table, each body is of its type, each type has a default, and no two constructors have one name
+-- headers name types of the table, each body is of its type, each type has a default, and constructors are called by names, no two by one
 pub record AreDefined (d : Definitions) : Type 0 where
   pub functions : HaveHeaders d.table d.functions
-  pub constants : HaveTypes d.table d.constants
+  pub constants : HaveConstantTypes d.table d.constants
   pub typed : AreTyped (bodies d) (signatures_of d)
   pub named : IsNamed d.table

@@ -24,7 +24,8 @@ pub struct ConstantDef {
     pub body: Expr,
 }
 
-/// The types, functions and constants of a file. Each body is of its type, each type has a default, and no two constructors have one name.
+/// The types, functions and constants of a file. Headers name types of the table, each body is of its type, each type has a default, and
+/// constructors are called by names, no two by one.
 #[derive(Debug, Drop)]
 pub struct Defs {
     table: TypeTable,

@@ -5,7 +5,7 @@ use Rattle.std.proofs.lemmas.List.{length-map}
 use Rattle.std.specs.Prelude.{option_map}
 use Rattle.txs_values.specs.Value.{Ty, Table, place_of, place_from, field_types}
 use Rattle.txs_terms.specs.Typed.{Signature, AreTypes, Of}
-use Rattle.txs_terms.specs.Defs.{Function, Constant, Definitions, HaveHeaders, HaveTypes, signatures_of, AreDefined}
+use Rattle.txs_terms.specs.Defs.{Function, Constant, Definitions, HaveHeaders, HaveConstantTypes, signatures_of, AreDefined}
 use Rattle.txs_syntax.specs.declared.ast.Name.{Name}
 use Rattle.txs_syntax.specs.declared.file.File.{File}
 use Rattle.txs_syntax.specs.declared.file.Def.{Def}
@@ -38,7 +38,7 @@ have_headers (type_between rest) table same known = have_headers rest table same
 have_headers (constant_between rest) table same known = have_headers rest table same known.1
 
 have_types : {file : File} {ds : List Def} {ks : List Constant} → AreConstants file ds ks → (table : Table) → length table ≡ length (type_names file.defs)
-    → AllKnown (type_names file.defs) ds → HaveTypes table ks
+    → AllKnown (type_names file.defs) ds → HaveConstantTypes table ks
 have_types no_constant table same known = tt
 have_types {file = file} (a_constant {n = n} d rest) table same known = (known_type table (type_names file.defs) n same known.0.0, have_types rest table same known.1)
 have_types (type_by rest) table same known = have_types rest table same known.1

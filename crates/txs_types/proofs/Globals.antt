@@ -4,8 +4,8 @@ use Rattle.std.proofs.lemmas.Option.{slice_get-map}
 use Rattle.std.specs.Prelude.{option_map}
 use Rattle.txs_values.specs.Value.{Ty, Field, Constructor, Table, Place, place_of, place_in, place_from, field_types}
 use Rattle.txs_terms.specs.Typed.{Signature, IsType, AreTypes}
-use Rattle.txs_terms.specs.Defs.{Function, Constant, Definitions, HaveHeaders, HaveTypes, signatures_of}
-use Rattle.txs_types.specs.Names.{Variable, Global, scope_of, Meaning, named_value, named_constant, named_function, named_constructor, named_test, named_selector, named_not, named_to_string, named_from_string, named_len, named_at, last_of, global_of, built_ins, selectors, constructor_globals, table_globals, function_globals, constant_globals}
+use Rattle.txs_terms.specs.Defs.{Function, Constant, Definitions, HaveHeaders, HaveConstantTypes, signatures_of}
+use Rattle.txs_types.specs.Names.{Variable, Global, scope_over, Meaning, named_value, named_constant, named_function, named_constructor, named_test, named_selector, named_not, named_to_string, named_from_string, named_len, named_at, last_of, global_of, built_ins, selectors, constructor_globals, table_globals, function_globals, constant_globals}
 use Rattle.txs_types.specs.Laws.{HasTypes}
 use Rattle.txs_types.proofs.Unique.{some_injective}
 use Rattle.txs_types.proofs.NotBoth.{none≢some}
@@ -108,7 +108,7 @@ good_functions d i before (f ∷ fs) ok e n =
       good_functions d (suc i) (before ++ f ∷ []) fs ok.1 (e ∙ sym (append_assoc before (f ∷ []) fs)) (ap suc n ∙ sym (length_behind before f)),
     )
 
-good_constants : (d : Definitions) (i : ℕ) (before ks : List Constant) → HaveTypes d.table ks → d.constants ≡ before ++ ks → i ≡ length before → AreGood d (constant_globals i ks)
+good_constants : (d : Definitions) (i : ℕ) (before ks : List Constant) → HaveConstantTypes d.table ks → d.constants ≡ before ++ ks → i ≡ length before → AreGood d (constant_globals i ks)
 good_constants d i before [] ok e n = tt
 good_constants d i before (k ∷ ks) ok e n =
     let found : slice_get d.constants i ≡ Some k = ap (λ l. slice_get l i) e ∙ (ap (slice_get (before ++ k ∷ ks)) n ∙ get_behind before k ks) in
@@ -117,7 +117,7 @@ good_constants d i before (k ∷ ks) ok e n =
       good_constants d (suc i) (before ++ k ∷ []) ks ok.1 (e ∙ sym (append_assoc before (k ∷ []) ks)) (ap suc n ∙ sym (length_behind before k)),
     )
 
-pub good_globals : (d : Definitions) (variables : List Variable) → HasTypes d → AreGood d (scope_of d variables).globals
+pub good_globals : (d : Definitions) (variables : List Variable) → HasTypes d → AreGood d (scope_over d variables).globals
 good_globals d variables ok =
     good_append d built_ins _ (tt, (tt, (tt, (tt, (tt, (tt, (tt, tt)))))))
     (good_append d (table_globals 0 0 d.table) _ (good_table d ok 0 0 d.table (omega arith) (λ i. ap (place_of d.table) (omega arith)))

@@ -15,7 +15,7 @@ use Rattle.txs_syntax.specs.declared.ast.Name.{Name}
 use Rattle.txs_syntax.specs.declared.file.DeclList.{DeclList}
 use Rattle.txs_types.specs.declared.fault.TypeFault.{TypeFault}
 use Rattle.txs_types.specs.declared.typed.Typed as rust_typed
-use Rattle.txs_types.specs.Names.{Variable, Global, Scope, scope_of}
+use Rattle.txs_types.specs.Names.{Variable, Global, Scope, scope_over}
 use Rattle.txs_types.specs.Elaborates.{Elaborates}
 use Rattle.txs_types.specs.Offends.{Offence, unknown, Offends}
 use Rattle.txs_types.specs.Files.{names_in, types_used, is_undefined, variables_of, names_of, query_scope, QueryOffends, twice_declared, unknown_declared, in_expression}
@@ -68,12 +68,12 @@ abbrev made : ℕ → List Global → List Variable → List Variable → Scope
 made n gs vs ls = record { types = n; globals = gs; slots = vs; locals = ls }
 
 pub scope_is : (d : Definitions) (list : DeclList) (types : List Name) (n : ℕ) (gs : List Global) (vs ls : List Variable) → types ≡ names_of d.table
-    → n ≡ length types → gs ≡ (scope_of d []).globals → vs ≡ variables_of types list → ls ≡ [] → made n gs vs ls ≡ query_scope d list
+    → n ≡ length types → gs ≡ (scope_over d []).globals → vs ≡ variables_of types list → ls ≡ [] → made n gs vs ls ≡ query_scope d list
 scope_is d list types n gs vs ls named p q r s =
     ap (λ n. made n gs vs ls) (p ∙ (ap length named ∙ names_length d.table))
     ∙ (ap (λ gs. made (length d.table) gs vs ls) q
-    ∙ (ap (λ vs. made (length d.table) (scope_of d []).globals vs ls) (r ∙ ap (λ types. variables_of types list) named)
-    ∙ ap (made (length d.table) (scope_of d []).globals (variables_of (names_of d.table) list)) s))
+    ∙ (ap (λ vs. made (length d.table) (scope_over d []).globals vs ls) (r ∙ ap (λ types. variables_of types list) named)
+    ∙ ap (made (length d.table) (scope_over d []).globals (variables_of (names_of d.table) list)) s))
 
 -- ---- what is told
 

@@ -12,7 +12,7 @@ use Rattle.txs_syntax.specs.declared.file.Def.TheVariants as def
 use Rattle.txs_syntax.specs.declared.file.ConDef.{ConDef}
 use Rattle.txs_syntax.specs.declared.file.DeclList.{DeclList}
 use Rattle.txs_syntax.specs.declared.file.Decl.{Decl}
-use Rattle.txs_types.specs.Names.{Variable, Global, Scope, scope_of, named_function, named_constant, built_ins, test_name, constructor_globals}
+use Rattle.txs_types.specs.Names.{Variable, Global, Scope, scope_over, named_function, named_constant, built_ins, test_name, constructor_globals}
 use Rattle.txs_types.specs.Elaborates.{Elaborates}
 use Rattle.txs_types.specs.Offends.{Offence, twice, unknown, arity, mismatch, empty_type, big_type, Offends}
 
@@ -224,7 +224,7 @@ names_of (t ∷ ts) = record { at = 0; text = t.name } ∷ names_of ts
 
 -- the scope of an expression over definitions and declarations
 abbrev pub query_scope : Definitions → DeclList → Scope
-query_scope d list = scope_of d (variables_of (names_of d.table) list)
+query_scope d list = scope_over d (variables_of (names_of d.table) list)
 
 -- the offence stands in a query over definitions: in its declarations, or in its expression
 pub data QueryOffends (d : Definitions) (list : DeclList) (want : Option Ty) (tree : Ast) : Offence → Type 0 where

@@ -3,14 +3,14 @@ use Rattle.std.specs.Prelude.{◌≡◌, ◌⊎◌, ℕ, List, [], Option, Some,
 use Rattle.txs_values.specs.Value.{Ty, Table, Place, place_of, field_types}
 use Rattle.txs_terms.specs.Expr.{Expr}
 use Rattle.txs_terms.specs.Typed.{IsType, AreTypes, Of}
-use Rattle.txs_terms.specs.Defs.{HaveHeaders, HaveTypes, Definitions, signatures_of, AreDefined}
+use Rattle.txs_terms.specs.Defs.{HaveHeaders, HaveConstantTypes, Definitions, signatures_of, AreDefined}
 use Rattle.txs_syntax.specs.declared.ast.Ast.{Ast}
 use Rattle.txs_values.specs.Spelled.{IsName}
 use Rattle.txs_syntax.specs.declared.ast.Name.{Name}
 use Rattle.txs_syntax.specs.declared.file.DeclList.{DeclList}
 use Rattle.txs_syntax.specs.declared.file.Def.TheVariants as def
 use Rattle.txs_syntax.specs.declared.file.File.{File}
-use Rattle.txs_types.specs.Names.{Variable, Scope, scope_of}
+use Rattle.txs_types.specs.Names.{Variable, Scope, scope_over}
 use Rattle.txs_types.specs.Elaborates.{Elaborates, HasInts}
 use Rattle.txs_types.specs.Offends.{Offence, Offends}
 use Rattle.txs_types.specs.Files.{FileOffends, IsMeant, table_of}
@@ -41,7 +41,7 @@ IsNeed table (Some t) = IsType table t
 -- the types in the headers of definitions, and those of the fields of their types, are of the table
 pub record HasTypes (d : Definitions) : Type 0 where
   pub functions : HaveHeaders d.table d.functions
-  pub constants : HaveTypes d.table d.constants
+  pub constants : HaveConstantTypes d.table d.constants
   pub fields : (c : ℕ) (p : Place) → place_of d.table c ≡ Some p → AreTypes d.table (field_types p.constructor.fields)
 
 -- what a tree means over definitions is well typed
@@ -49,7 +49,7 @@ abbrev pub ElaboratedIsTyped : Type 0
 ElaboratedIsTyped =
     (d : Definitions) (variables : List Variable) (want : Option Ty) (tree : Ast) (e : Expr) (t : Ty)
     → HasTypes d → AreTypes d.table (field_types variables) → IsNeed d.table want → HasInts tree
-    → Elaborates (scope_of d variables) want tree e t → Of d.table (signatures_of d) (field_types variables) [] e t
+    → Elaborates (scope_over d variables) want tree e t → Of d.table (signatures_of d) (field_types variables) [] e t
 
 -- a file means definitions, or something offends in it
 abbrev pub MeantOrOffends : Type 0

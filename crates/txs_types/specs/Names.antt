@@ -164,8 +164,8 @@ constant_globals i [] = []
 constant_globals i (k ∷ ks) = record { name = k.name; means = named_constant i k.ty } ∷ constant_globals (suc i) ks
 
 -- the scope of an expression over definitions, with these variables
-abbrev pub scope_of : Definitions → List Variable → Scope
-scope_of d variables = record {
+abbrev pub scope_over : Definitions → List Variable → Scope
+scope_over d variables = record {
   types = length d.table;
   globals = built_ins ++ (table_globals 0 0 d.table ++ (function_globals 0 d.functions ++ constant_globals 0 d.constants));
   slots = variables;

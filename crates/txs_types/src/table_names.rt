@@ -210,7 +210,7 @@ fn add_constants(
 
 /// The names of the language and those that definitions define, in order.
 pub fn global_names(alloc: Global, defs: &Defs) -> Result<GlobalNames, NoMemory>
-    ensures { IfOk result (λ g. globals_of g.list ≡ (names.scope_of (definitions_of defs.now) []).globals) }
+    ensures { IfOk result (λ g. globals_of g.list ≡ (names.scope_over (definitions_of defs.now) []).globals) }
 {
     let mut list = built_ins(alloc)?;
     add_types(alloc, &mut list, defs.table().as_slice())?;
