@@ -14,8 +14,7 @@ use Rattle.txs_syntax.specs.declared.file.Def.TheVariants as def
 use Rattle.txs_syntax.specs.declared.file.DeclList.{DeclList}
 use Rattle.txs_types.specs.declared.fault.TypeFault.{TypeFault}
 use Rattle.txs_types.specs.declared.scope.Scope as rust_scope
-use Rattle.txs_types.specs.declared.bodies.Functions as functions
-use Rattle.txs_types.specs.declared.bodies.Constants as constants
+use Rattle.txs_types.specs.declared.bodies.Found as rust_found
 use Rattle.txs_types.specs.Names.{Scope, Global, Variable, built_ins}
 use Rattle.txs_types.specs.Elaborates.{Elaborates}
 use Rattle.txs_types.specs.Offends.{Offence}
@@ -23,7 +22,7 @@ use Rattle.txs_types.specs.Files.{type_names, type_of, variables_of, globals_in,
 use Rattle.txs_types.specs.Told.{Finds}
 use Rattle.txs_types.specs.View.{scope_of}
 use Rattle.txs_types.specs.Among.{AmongDefs, InFunction, InConstant, FunctionsHaveInts, ConstantsHaveInts, IsOfFile}
-use Rattle.txs_types.specs.Collected.{FunctionsMeant, ConstantsMeant, FunctionIn, ConstantIn, FunctionAdded, ConstantAdded, FunctionsFound, ConstantsFound}
+use Rattle.txs_types.specs.Collected.{FunctionsMeant, ConstantsMeant, FunctionIn, ConstantIn, FunctionsFound, ConstantsFound, Judged, IsAdded, IsFound}
 use Rattle.txs_types.proofs.NotBoth.{none≢some, not_both}
 use Rattle.txs_types.proofs.Deciding.{least_none, least_right, among_least, among_none, taken_more}
 
@@ -40,6 +39,44 @@ body_scope file s vs h e =
     ∙ (ap (λ gs. scope_by (length (type_names file.defs)) gs (scope_of s).slots (scope_of s).locals) h.globals
     ∙ (ap (λ vs. scope_by (length (type_names file.defs)) (built_ins ++ globals_in (type_names file.defs) 0 0 0 0 file.defs) vs (scope_of s).locals) e
     ∙ ap (λ ls. scope_by (length (type_names file.defs)) (built_ins ++ globals_in (type_names file.defs) 0 0 0 0 file.defs) vs ls) h.locals))
+
+-- ---- what is collected
+
+abbrev Appends : {A : Type 0} → (List Def → List A → Type 0) → Type 0
+Appends {A} Meant = (ds es : List Def) (xs ys zs : List A) → zs ≡ xs ++ ys → Meant ds xs → Meant es ys → Meant (ds ++ es) zs
+
+-- nothing offends in what is meant
+abbrev IsClean : {A : Type 0} → (List Def → List A → Type 0) → (Def → Offence → Type 0) → Type 0
+IsClean {A} Meant In = (d : Def) (xs : List A) → Meant (d ∷ []) xs → (o : Offence) → In d o → ⊥
+
+found_more : {A : Type 0} (Meant : List Def → List A → Type 0) (In : Def → Offence → Type 0) → Appends Meant → IsClean Meant In
+    → (ds : List Def) (d : Def) (s t : rust_found.Found A) (j : Result (List A) TypeFault) → IsFound Meant In ds s → Judged Meant In d j → IsAdded s j t
+    → IsFound Meant In (ds ++ d ∷ []) t
+found_more Meant In append clean ds d s t (Ok xs) p q a = record {
+  finds = among_least (λ i. In) ds d s.fault None t.fault p.finds (clean d xs q) (least_none s.fault t.fault a.1);
+  made = λ e. append ds (d ∷ []) s.list xs t.list a.0 (p.made (sym a.1 ∙ e)) q;
+}
+found_more Meant In append clean ds d s t (Err f) p q a = record {
+  finds = among_least (λ i. In) ds d s.fault (Some f) t.fault p.finds q a;
+  made = λ e. absurd (none≢some (sym (least_right s.fault (Some f) t.fault a e)));
+}
+
+found_step : {A : Type 0} (Meant : List Def → List A → Type 0) (In : Def → Offence → Type 0) → Appends Meant → IsClean Meant In
+    → (ds : List Def) (i : ℕ) (d : Def) (s t : rust_found.Found A) (j : Result (List A) TypeFault) → i < length ds → d ≡ get_or ds i d
+    → IsFound Meant In (take i ds) s → Judged Meant In d j → IsAdded s j t → IsFound Meant In (take (i + 1) ds) t
+found_step Meant In append clean ds i d s t j below is p q a =
+    subst (λ ds. IsFound Meant In ds t) (taken_more ds i d below is) (found_more Meant In append clean (take i ds) d s t j p q a)
+
+found_start : {A : Type 0} (Meant : List Def → List A → Type 0) (In : Def → Offence → Type 0) → Meant [] [] → (s : rust_found.Found A) → s.list ≡ [] → s.fault ≡ None
+    → IsFound Meant In [] s
+found_start Meant In none s e f = record {
+  finds = subst (λ g. Finds g (AmongDefs In [])) (sym f) (λ o h. among_none (λ i. In) o h);
+  made = λ g. subst (Meant []) (sym e) none;
+}
+
+pub found_end : {A : Type 0} (Meant : List Def → List A → Type 0) (In : Def → Offence → Type 0) (ds es : List Def) (i : ℕ) (s : rust_found.Found A) → length ds ≤ i → ds ≡ es
+    → IsFound Meant In (take i ds) s → IsFound Meant In es s
+found_end Meant In ds es i s past e h = subst (λ ds. IsFound Meant In ds s) (take_all i ds past ∙ e) h
 
 -- ---- functions
 
@@ -84,29 +121,15 @@ none_in_function (constant_between rest) (def.TypeDef y cs) q o h = h
 none_in_function (constant_between rest) (def.FuncDef y qs s b) q o h = cc
 none_in_function (constant_between rest) (def.ConstDef y t b) q o h = h
 
-functions_more : (file : File) (ds : List Def) (d : Def) (s t : functions.Functions) (j : Result (List FunctionDef) TypeFault) → FunctionsFound file ds s → FunctionIn file d j → FunctionAdded s j t
-    → FunctionsFound file (ds ++ d ∷ []) t
-functions_more file ds d s t (Ok fs) p q a = record {
-  finds = among_least (λ i. InFunction file) ds d s.fault None t.fault p.finds (none_in_function q.meant d refl) (least_none s.fault t.fault a.1);
-  made = λ e. functions_meant_append file ds (d ∷ []) s.list fs t.list a.0 (p.made (sym a.1 ∙ e)) q;
-}
-functions_more file ds d s t (Err f) p q a = record {
-  finds = among_least (λ i. InFunction file) ds d s.fault (Some f) t.fault p.finds q a;
-  made = λ e. absurd (none≢some (sym (least_right s.fault (Some f) t.fault a e)));
-}
+functions_clean : (file : File) → IsClean (FunctionsMeant file) (InFunction file)
+functions_clean file d fs q = none_in_function q.meant d refl
 
-pub functions_step : (file : File) (ds : List Def) (i : ℕ) (d : Def) (s t : functions.Functions) (j : Result (List FunctionDef) TypeFault) → i < length ds → d ≡ get_or ds i d
-    → FunctionsFound file (take i ds) s → FunctionIn file d j → FunctionAdded s j t → FunctionsFound file (take (i + 1) ds) t
-functions_step file ds i d s t j below is p q a = subst (λ ds. FunctionsFound file ds t) (taken_more ds i d below is) (functions_more file (take i ds) d s t j p q a)
+pub functions_step : (file : File) (ds : List Def) (i : ℕ) (d : Def) (s t : rust_found.Found FunctionDef) (j : Result (List FunctionDef) TypeFault) → i < length ds → d ≡ get_or ds i d
+    → FunctionsFound file (take i ds) s → FunctionIn file d j → IsAdded s j t → FunctionsFound file (take (i + 1) ds) t
+functions_step file = found_step (FunctionsMeant file) (InFunction file) (functions_meant_append file) (functions_clean file)
 
-pub functions_start : (file : File) (s : functions.Functions) → s.list ≡ [] → s.fault ≡ None → FunctionsFound file [] s
-functions_start file s e f = record {
-  finds = subst (λ g. Finds g (AmongDefs (InFunction file) [])) (sym f) (λ o h. among_none (λ i. InFunction file) o h);
-  made = λ g. record { meant = subst (λ l. AreFunctions file [] l) (sym (ap (map function_of) e)) no_function; ints = tt };
-}
-
-pub functions_end : (file : File) (ds : List Def) (i : ℕ) (s : functions.Functions) → length ds ≤ i → ds ≡ file.defs → FunctionsFound file (take i ds) s → FunctionsFound file file.defs s
-functions_end file ds i s past e h = subst (λ ds. FunctionsFound file ds s) (take_all i ds past ∙ e) h
+pub functions_start : (file : File) (s : rust_found.Found FunctionDef) → s.list ≡ [] → s.fault ≡ None → FunctionsFound file [] s
+functions_start file = found_start (FunctionsMeant file) (InFunction file) (record { meant = no_function; ints = tt })
 
 pub no_function_in : (file : File) (d : Def) (fs : List FunctionDef) → fs ≡ [] → ((x r : Name) (ps : DeclList) (e : Ast) → d ≡ def.FuncDef x ps r e → ⊥) → FunctionsMeant file (d ∷ []) fs
 no_function_in file (def.TypeDef x cs) fs e h = record { meant = subst (λ l. AreFunctions file (def.TypeDef x cs ∷ []) l) (sym (ap (map function_of) e)) (type_between no_function); ints = tt }
@@ -153,29 +176,15 @@ none_in_constant (function_between rest) (def.TypeDef y cs) q o h = h
 none_in_constant (function_between rest) (def.FuncDef y qs s b) q o h = h
 none_in_constant (function_between rest) (def.ConstDef y t b) q o h = cc
 
-constants_more : (file : File) (ds : List Def) (d : Def) (s t : constants.Constants) (j : Result (List ConstantDef) TypeFault) → ConstantsFound file ds s → ConstantIn file d j → ConstantAdded s j t
-    → ConstantsFound file (ds ++ d ∷ []) t
-constants_more file ds d s t (Ok ks) p q a = record {
-  finds = among_least (λ i. InConstant file) ds d s.fault None t.fault p.finds (none_in_constant q.meant d refl) (least_none s.fault t.fault a.1);
-  made = λ e. constants_meant_append file ds (d ∷ []) s.list ks t.list a.0 (p.made (sym a.1 ∙ e)) q;
-}
-constants_more file ds d s t (Err f) p q a = record {
-  finds = among_least (λ i. InConstant file) ds d s.fault (Some f) t.fault p.finds q a;
-  made = λ e. absurd (none≢some (sym (least_right s.fault (Some f) t.fault a e)));
-}
+constants_clean : (file : File) → IsClean (ConstantsMeant file) (InConstant file)
+constants_clean file d ks q = none_in_constant q.meant d refl
 
-pub constants_step : (file : File) (ds : List Def) (i : ℕ) (d : Def) (s t : constants.Constants) (j : Result (List ConstantDef) TypeFault) → i < length ds → d ≡ get_or ds i d
-    → ConstantsFound file (take i ds) s → ConstantIn file d j → ConstantAdded s j t → ConstantsFound file (take (i + 1) ds) t
-constants_step file ds i d s t j below is p q a = subst (λ ds. ConstantsFound file ds t) (taken_more ds i d below is) (constants_more file (take i ds) d s t j p q a)
+pub constants_step : (file : File) (ds : List Def) (i : ℕ) (d : Def) (s t : rust_found.Found ConstantDef) (j : Result (List ConstantDef) TypeFault) → i < length ds → d ≡ get_or ds i d
+    → ConstantsFound file (take i ds) s → ConstantIn file d j → IsAdded s j t → ConstantsFound file (take (i + 1) ds) t
+constants_step file = found_step (ConstantsMeant file) (InConstant file) (constants_meant_append file) (constants_clean file)
 
-pub constants_start : (file : File) (s : constants.Constants) → s.list ≡ [] → s.fault ≡ None → ConstantsFound file [] s
-constants_start file s e f = record {
-  finds = subst (λ g. Finds g (AmongDefs (InConstant file) [])) (sym f) (λ o h. among_none (λ i. InConstant file) o h);
-  made = λ g. record { meant = subst (λ l. AreConstants file [] l) (sym (ap (map constant_of) e)) no_constant; ints = tt };
-}
-
-pub constants_end : (file : File) (ds : List Def) (i : ℕ) (s : constants.Constants) → length ds ≤ i → ds ≡ file.defs → ConstantsFound file (take i ds) s → ConstantsFound file file.defs s
-constants_end file ds i s past e h = subst (λ ds. ConstantsFound file ds s) (take_all i ds past ∙ e) h
+pub constants_start : (file : File) (s : rust_found.Found ConstantDef) → s.list ≡ [] → s.fault ≡ None → ConstantsFound file [] s
+constants_start file = found_start (ConstantsMeant file) (InConstant file) (record { meant = no_constant; ints = tt })
 
 pub no_constant_in : (file : File) (d : Def) (ks : List ConstantDef) → ks ≡ [] → ((x t : Name) (e : Ast) → d ≡ def.ConstDef x t e → ⊥) → ConstantsMeant file (d ∷ []) ks
 no_constant_in file (def.TypeDef x cs) ks e h = record { meant = subst (λ l. AreConstants file (def.TypeDef x cs ∷ []) l) (sym (ap (map constant_of) e)) (type_by no_constant); ints = tt }

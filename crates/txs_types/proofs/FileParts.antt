@@ -11,12 +11,12 @@ use Rattle.txs_types.specs.declared.fault.TypeFault.{TypeFault}
 use Rattle.txs_types.specs.Elaborates.{HasInts}
 use Rattle.txs_types.specs.Offends.{Offence}
 use Rattle.txs_types.specs.Files.{type_names, defined_names, built_in_types, built_in_names, excused, FileOffends, twice_type, twice_name, twice_parameter, unknown_type, no_value, big_default, in_function, in_constant}
-use Rattle.txs_types.specs.Told.{Finds}
+use Rattle.txs_types.specs.Told.{Finds, Least}
 use Rattle.txs_types.specs.Laws.{FileHasInts}
-use Rattle.txs_types.specs.Among.{Least, Among, AmongDefs, IsTwice, TwiceIn, UnknownIn, BadDefault, none, big, InFunction, InConstant, FunctionsHaveInts, ConstantsHaveInts, InNames, OutsideBodies, InFile}
+use Rattle.txs_types.specs.Among.{Among, AmongDefs, IsTwice, TwiceIn, UnknownIn, BadDefault, none, big, InFunction, InConstant, FunctionsHaveInts, ConstantsHaveInts, InNames, OutsideBodies, InFile}
 use Rattle.txs_types.proofs.Unique.{some_injective}
 use Rattle.txs_types.proofs.NotBoth.{none≢some}
-use Rattle.txs_types.proofs.Deciding.{finds_same, finds_least}
+use Rattle.txs_types.proofs.ToldLaws.{finds_same, finds_least}
 
 pub names_found : (file : File) (types : List Name) (defs : List Def) (a b c d e f r : Option TypeFault) → types ≡ type_names file.defs → defs ≡ file.defs
     → Finds a (IsTwice built_in_types types) → Finds b (IsTwice built_in_names (defined_names defs)) → Finds c (AmongDefs TwiceIn defs) → Finds d (AmongDefs (UnknownIn types) defs)

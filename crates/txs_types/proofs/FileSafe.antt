@@ -1,54 +1,40 @@
 -- The definitions that a file without a fault means: they are well typed, and their bodies are safe.
 use Rattle.std.proofs.Common.{◌≡◌, ap, sym, subst, ◌∙◌, List, [], option_map, Option, Some, None}
 use Rattle.std.proofs.lemmas.Option.{slice_get-map}
-use Rattle.txs_values.specs.Value.{Ty, Value, HaveTypes, Table}
-use Rattle.txs_terms.specs.Expr.{Expr, put, filled}
-use Rattle.txs_terms.specs.Eval.{height_limit}
+use Rattle.txs_values.specs.Value.{Table}
+use Rattle.txs_terms.specs.Expr.{Expr}
 use Rattle.txs_terms.specs.Typed.{Of, Signature}
-use Rattle.txs_terms.specs.Defs.{Function, Constant, Definitions, bodies, signatures_of, AreDefined}
-use Rattle.txs_terms.proofs.typing.Putting.{put_typed, filled_all}
-use Rattle.txs_terms.proofs.typing.Runs.{run_right, run_typed}
+use Rattle.txs_terms.specs.Defs.{Function, Constant, Definitions, signatures_of, AreDefined}
 use Rattle.txs_terms.specs.View.{definitions_of}
 use Rattle.txs_terms.specs.declared.defs.FunctionDef.{FunctionDef}
 use Rattle.txs_terms.specs.declared.defs.ConstantDef.{ConstantDef}
 use Rattle.txs_syntax.specs.declared.file.File.{File}
 use Rattle.txs_types.specs.declared.fault.TypeFault.{TypeFault}
-use Rattle.txs_types.specs.declared.bodies.Functions as functions
-use Rattle.txs_types.specs.declared.bodies.Constants as constants
+use Rattle.txs_types.specs.declared.bodies.Found as rust_found
 use Rattle.txs_types.specs.Offends.{Offence}
 use Rattle.txs_types.specs.Files.{type_names, table_in, FileOffends, IsMeant}
 use Rattle.txs_types.specs.Laws.{FileHasNames}
-use Rattle.txs_types.specs.Answer.{Told, IsSafe, AreSafe}
-use Rattle.txs_types.specs.Told.{Finds}
-use Rattle.txs_types.specs.Among.{Least, OutsideBodies}
+use Rattle.txs_types.specs.Answer.{Told, AreSafe}
+use Rattle.txs_types.specs.Told.{Finds, Least}
+use Rattle.txs_types.specs.Among.{OutsideBodies}
 use Rattle.txs_types.specs.Collected.{FunctionsMeant, ConstantsMeant, FunctionsFound, ConstantsFound}
 use Rattle.txs_types.proofs.Deciding.{least_left, least_right}
 use Rattle.txs_types.proofs.Defined.{meant_is_defined}
 use Rattle.txs_types.proofs.FileParts.{file_found, file_has_ints}
+use Rattle.txs_types.proofs.Safe.{typed_is_safe}
 use Rattle.txs_types.proofs.Unique.{some_injective}
-
-closed : (d : Definitions) (types : List Ty) (vs : List Value) (e : Expr) (t : Ty) → Of d.table (signatures_of d) types [] e t → HaveTypes d.table vs types
-    → Of d.table (signatures_of d) [] [] (put (filled vs) e) t
-closed d types vs e t h have = put_typed d.table (signatures_of d) h (filled vs) [] (filled_all d.table (signatures_of d) vs types have)
-
--- a typed expression is safe
-pub typed_is_safe : (d : Definitions) → AreDefined d → (types : List Ty) (e : Expr) (t : Ty) → Of d.table (signatures_of d) types [] e t → IsSafe d types e t
-typed_is_safe d defined types e t h = record {
-  never_wrong = λ vs have. run_right (bodies d) (signatures_of d) defined.typed (put (filled vs) e) t height_limit 0 (closed d types vs e t h have);
-  gives = λ vs have v n q. run_typed (bodies d) (signatures_of d) defined.typed (put (filled vs) e) t height_limit 0 (closed d types vs e t h have) v n q;
-}
 
 pub defined_are_safe : (d : Definitions) → AreDefined d → AreSafe d
 defined_are_safe d defined = record {
   functions = λ i f h.
       let make : (Function → Signature) = λ f. record { takes = f.takes; gives = f.gives } in
       let k = defined.typed.functions i (make f) (slice_get-map make d.functions i ∙ ap (option_map make) h) in
-      typed_is_safe d defined f.takes f.body f.gives
+      typed_is_safe d f.takes f.body f.gives defined
       (subst (λ (e : Expr). Of d.table (signatures_of d) f.takes [] e f.gives)
       (some_injective (sym k.1 ∙ (slice_get-map (λ (f : Function). f.body) d.functions i ∙ ap (option_map (λ (f : Function). f.body)) h))) k.2);
   constants = λ i c h.
       let k = defined.typed.constants i c.ty (slice_get-map (λ (c : Constant). c.ty) d.constants i ∙ ap (option_map (λ (c : Constant). c.ty)) h) in
-      typed_is_safe d defined [] c.body c.ty
+      typed_is_safe d [] c.body c.ty defined
       (subst (λ (e : Expr). Of d.table (signatures_of d) [] [] e c.ty)
       (some_injective (sym k.1 ∙ (slice_get-map (λ (c : Constant). c.body) d.constants i ∙ ap (option_map (λ (c : Constant). c.body)) h))) k.2);
 }
@@ -64,7 +50,7 @@ pub file_defined : (file : File) (table : Table) (fs : List FunctionDef) (ks : L
 file_defined file table fs ks names none e p q =
     meant_is_defined file (definitions_of (table, fs, ks)) names (file_has_ints file p.ints q.ints) none (file_meant file table fs ks e p q)
 
-module _ (file : File) (outside : Option TypeFault) (fs : functions.Functions) (ks : constants.Constants) (without r : Option TypeFault)
+module _ (file : File) (outside : Option TypeFault) (fs : rust_found.Found FunctionDef) (ks : rust_found.Found ConstantDef) (without r : Option TypeFault)
     (a : Finds outside (OutsideBodies file)) (b : FunctionsFound file file.defs fs) (c : ConstantsFound file file.defs ks)
     (first : Least outside fs.fault without) (second : Least without ks.fault r) where
   pub offence_found : Finds r (FileOffends file)

@@ -30,4 +30,5 @@ mod FileParts
 mod FileBodies
 mod FileJudged
 mod FileSafe
+mod Safe
 pub mod Weights

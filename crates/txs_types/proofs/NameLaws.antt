@@ -1,5 +1,5 @@
 -- Loops over names: the number of a type, names without a definition, names that stand before already.
-use Rattle.std.proofs.Common.{◌≡◌, ◌⊎◌, ◌<◌, ◌+◌, ℕ, zero, suc, Bool, true, false, ◌||◌, cond, bytes_eq, refl, sym, ap, subst, ◌∙◌, inl, inr, List, [], ◌∷◌, ◌++◌, length, map, take, drop, get_or, slice_get, Option, Some, MatchBool, add-one, true≢false}
+use Rattle.std.proofs.Common.{◌≡◌, ◌⊎◌, ◌<◌, ◌+◌, ℕ, zero, suc, Bool, true, false, ◌||◌, cond, bytes_eq, refl, sym, ap, subst, ◌∙◌, inl, inr, List, [], ◌∷◌, ◌++◌, length, map, take, drop, get_or, Option, Some, None, MatchBool, add-one, true≢false, arith}
 use Rattle.std.proofs.Math.Seq.{drop-cons, drop-length}
 use Rattle.std.proofs.lemmas.List.{take_more, map-append}
 use Rattle.std.proofs.lemmas.Slice.Eq.{bytes_eq-Decides}
@@ -7,12 +7,11 @@ use Rattle.txs_syntax.specs.declared.ast.Name.{Name}
 use Rattle.txs_syntax.specs.declared.file.Decl.{Decl}
 use Rattle.txs_types.specs.declared.fault.TypeFault.{TypeFault}
 use Rattle.txs_types.specs.declared.fault.TypeFault.TheVariants as fault
-use Rattle.txs_types.specs.Offends.{Offence, twice, unknown}
-use Rattle.txs_types.specs.Files.{type_number, is_among, is_undefined, types_used, Repeats, here, behind}
-use Rattle.txs_types.specs.Told.{Added, Finds}
-use Rattle.txs_types.proofs.Unique.{some_injective}
-use Rattle.txs_types.proofs.NotBoth.{none≢some}
-use Rattle.txs_types.proofs.ToldLaws.{Either, finds_same, finds_added, unknown_told, twice_told}
+use Rattle.txs_types.specs.Offends.{Offence, twice}
+use Rattle.txs_types.specs.Files.{type_number, is_among, types_used, Repeats, here, behind, NotAfter}
+use Rattle.txs_types.specs.Told.{Least, Finds}
+use Rattle.txs_types.specs.Among.{IsTwice}
+use Rattle.txs_types.proofs.ToldLaws.{Either, finds_same, finds_least}
 
 -- ---- the item at hand
 
@@ -64,63 +63,6 @@ among_passed x types i n h e other =
 
 -- ---- names without a definition
 
--- one of the names is of no type
-abbrev pub UnknownAmong : List Name → List Name → Offence → Type 0
-UnknownAmong types ns o = (j : ℕ) × (n : Name) × (slice_get ns j ≡ Some n) × (is_undefined types n ≡ true) × (o ≡ unknown n.at)
-
-get_last : (ns : List Name) (m : Name) (j : ℕ) (n : Name) → slice_get (ns ++ m ∷ []) j ≡ Some n → (slice_get ns j ≡ Some n) ⊎ (m ≡ n)
-get_last [] m zero n h = inr (some_injective h)
-get_last [] m (suc j) n h = absurd (none≢some h)
-get_last (x ∷ ns) m zero n h = inl h
-get_last (x ∷ ns) m (suc j) n h = get_last ns m j n h
-
-get_front : (ns : List Name) (m : Name) (j : ℕ) (n : Name) → slice_get ns j ≡ Some n → slice_get (ns ++ m ∷ []) j ≡ Some n
-get_front [] m j n h = absurd (none≢some h)
-get_front (x ∷ ns) m zero n h = h
-get_front (x ∷ ns) m (suc j) n h = get_front ns m j n h
-
-get_end : (ns : List Name) (m : Name) → slice_get (ns ++ m ∷ []) (length ns) ≡ Some m
-get_end [] m = refl
-get_end (x ∷ ns) m = get_end ns m
-
-unknown_last : (types ns : List Name) (m : Name) (o : Offence) → UnknownAmong types (ns ++ m ∷ []) o
-    → UnknownAmong types ns o ⊎ (is_undefined types m ≡ true) × (o ≡ unknown m.at)
-unknown_last types ns m o (j, n, h, u, e) = elim (get_last ns m j n h) [
-  | inl k ↦ inl (j, n, k, u, e)
-  | inr k ↦ inr (subst (λ m. is_undefined types m ≡ true) (sym k) u, e ∙ ap (λ m. unknown m.at) (sym k))
-]
-
-unknown_front : (types ns : List Name) (m : Name) (o : Offence) → UnknownAmong types ns o → UnknownAmong types (ns ++ m ∷ []) o
-unknown_front types ns m o (j, n, h, u, e) = (j, n, get_front ns m j n h, u, e)
-
--- what is told of the names so far, with one name more
-pub unknown_next : (types ns : List Name) (m : Name) (f r : Option TypeFault) → Finds f (UnknownAmong types ns)
-    → MatchBool (is_undefined types m) (Added f (fault.Unknown m.at) r) (r ≡ f) → Finds r (UnknownAmong types (ns ++ m ∷ []))
-unknown_next types ns m f r h k = by_bool (is_undefined types m) refl k
-  where
-    P : Offence → Type 0
-    P = UnknownAmong types ns
-
-    Q : Offence → Type 0
-    Q = λ o. o ≡ unknown m.at
-
-    W : Offence → Type 0
-    W = UnknownAmong types (ns ++ m ∷ [])
-
-    to : is_undefined types m ≡ true → (o : Offence) → P o ⊎ (o ≡ unknown m.at) → W o
-    to u o (inl p) = unknown_front types ns m o p
-    to u o (inr e) = (length ns, m, get_end ns m, u, e)
-
-    back : (o : Offence) → W o → P o ⊎ (o ≡ unknown m.at)
-    back o w = elim (unknown_last types ns m o w) [ inl p ↦ inl p | inr q ↦ inr q.1 ]
-
-    back_known : is_undefined types m ≡ false → (o : Offence) → W o → P o
-    back_known u o w = elim (unknown_last types ns m o w) [ inl p ↦ p | inr q ↦ absurd (true≢false (sym q.0 ∙ u)) ]
-
-    by_bool : (b : Bool) → is_undefined types m ≡ b → MatchBool b (Added f (fault.Unknown m.at) r) (r ≡ f) → Finds r W
-    by_bool true u a = finds_same r (Either P Q) W (to u) back (finds_added f (fault.Unknown m.at) r P Q h (unknown_told m.at) a)
-    by_bool false u e = subst (λ r. Finds r W) (sym e) (finds_same f P W (unknown_front types ns m) (back_known u) h)
-
 -- the types of the declarations so far, with one declaration more
 pub used_next : (decls : List Decl) (i : ℕ) (d : Decl) → i < length decls → d ≡ get_or decls i d → types_used (take (i + 1) decls) ≡ types_used (take i decls) ++ d.ty ∷ []
 used_next decls i d h e = ap types_used (passed_is decls i d h e) ∙ map-append (λ d. d.ty) (take i decls) (d ∷ [])
@@ -135,10 +77,6 @@ seen xs (n ∷ ns) = seen (n.text ∷ xs) ns
 pub seen_next : (xs : List (List ℕ)) (ns : List Name) (m : Name) → seen xs (ns ++ m ∷ []) ≡ m.text ∷ seen xs ns
 seen_next xs [] m = refl
 seen_next xs (n ∷ ns) m = seen_next (n.text ∷ xs) ns m
-
--- a name repeats one before it
-abbrev pub RepeatsAmong : List (List ℕ) → List Name → Offence → Type 0
-RepeatsAmong xs ns o = (at : ℕ) × (o ≡ twice at) × Repeats xs ns at
 
 repeats_last : (xs : List (List ℕ)) (ns : List Name) (m : Name) (at : ℕ) → Repeats xs (ns ++ m ∷ []) at
     → Repeats xs ns at ⊎ (is_among m.text (seen xs ns) ≡ true) × (at ≡ m.at)
@@ -156,38 +94,31 @@ repeats_end : (xs : List (List ℕ)) (ns : List Name) (m : Name) → is_among m.
 repeats_end xs [] m h = here h
 repeats_end xs (n ∷ ns) m h = behind (repeats_end (n.text ∷ xs) ns m h)
 
+-- the name stands before
+abbrev IsSeen : List (List ℕ) → Name → Offence → Type 0
+IsSeen before m o = (is_among m.text before ≡ true) × (o ≡ twice m.at)
+
+seen_found : (before : List (List ℕ)) (m : Name) (b : Bool) (g : Option TypeFault) → is_among m.text before ≡ b → MatchBool b (g ≡ Some (fault.Twice m.at)) (g ≡ None)
+    → Finds g (IsSeen before m)
+seen_found before m true g u e =
+    subst (λ g. Finds g (IsSeen before m)) (sym e) (record { stands = (u, refl); first = λ o h. subst (NotAfter (twice m.at)) (sym h.1) (inr (refl, omega arith)) })
+seen_found before m false g u e = subst (λ g. Finds g (IsSeen before m)) (sym e) (λ o h. true≢false (sym h.0 ∙ u))
+
 -- what is told of the names so far, with one name more
-pub repeats_next : (xs : List (List ℕ)) (ns : List Name) (m : Name) (f r : Option TypeFault) → Finds f (RepeatsAmong xs ns)
-    → MatchBool (is_among m.text (seen xs ns)) (Added f (fault.Twice m.at) r) (r ≡ f) → Finds r (RepeatsAmong xs (ns ++ m ∷ []))
-repeats_next xs ns m f r h k = by_bool (is_among m.text (seen xs ns)) refl k
+pub repeats_next : (xs : List (List ℕ)) (ns : List Name) (m : Name) (f g r : Option TypeFault) → Finds f (IsTwice xs ns)
+    → MatchBool (is_among m.text (seen xs ns)) (g ≡ Some (fault.Twice m.at)) (g ≡ None) → Least f g r → Finds r (IsTwice xs (ns ++ m ∷ []))
+repeats_next xs ns m f g r h k l =
+    finds_same r (Either (IsTwice xs ns) (IsSeen (seen xs ns) m)) (IsTwice xs (ns ++ m ∷ [])) to back
+    (finds_least f g r (IsTwice xs ns) (IsSeen (seen xs ns) m) l h (seen_found (seen xs ns) m (is_among m.text (seen xs ns)) g refl k))
   where
-    P : Offence → Type 0
-    P = RepeatsAmong xs ns
+    to : (o : Offence) → IsTwice xs ns o ⊎ IsSeen (seen xs ns) m o → IsTwice xs (ns ++ m ∷ []) o
+    to o (inl (at, e, p)) = (at, e, repeats_front xs ns m at p)
+    to o (inr (u, e)) = (m.at, e, repeats_end xs ns m u)
 
-    Q : Offence → Type 0
-    Q = λ o. o ≡ twice m.at
+    back : (o : Offence) → IsTwice xs (ns ++ m ∷ []) o → IsTwice xs ns o ⊎ IsSeen (seen xs ns) m o
+    back o (at, e, w) = elim (repeats_last xs ns m at w) [ inl p ↦ inl (at, e, p) | inr q ↦ inr (q.0, e ∙ ap twice q.1) ]
 
-    W : Offence → Type 0
-    W = RepeatsAmong xs (ns ++ m ∷ [])
-
-    front : (o : Offence) → P o → W o
-    front o (at, e, p) = (at, e, repeats_front xs ns m at p)
-
-    to : is_among m.text (seen xs ns) ≡ true → (o : Offence) → P o ⊎ (o ≡ twice m.at) → W o
-    to u o (inl p) = front o p
-    to u o (inr e) = (m.at, e, repeats_end xs ns m u)
-
-    back : (o : Offence) → W o → P o ⊎ (o ≡ twice m.at)
-    back o (at, e, w) = elim (repeats_last xs ns m at w) [ inl p ↦ inl (at, e, p) | inr q ↦ inr (e ∙ ap twice q.1) ]
-
-    back_new : is_among m.text (seen xs ns) ≡ false → (o : Offence) → W o → P o
-    back_new u o (at, e, w) = elim (repeats_last xs ns m at w) [ inl p ↦ (at, e, p) | inr q ↦ absurd (true≢false (sym q.0 ∙ u)) ]
-
-    by_bool : (b : Bool) → is_among m.text (seen xs ns) ≡ b → MatchBool b (Added f (fault.Twice m.at) r) (r ≡ f) → Finds r W
-    by_bool true u a = finds_same r (Either P Q) W (to u) back (finds_added f (fault.Twice m.at) r P Q h (twice_told m.at) a)
-    by_bool false u e = subst (λ r. Finds r W) (sym e) (finds_same f P W front (back_new u) h)
-
-pub none_repeats : (xs : List (List ℕ)) (o : Offence) → RepeatsAmong xs [] o → ⊥
+pub none_repeats : (xs : List (List ℕ)) (o : Offence) → IsTwice xs [] o → ⊥
 none_repeats xs o (at, e, r) = elim r [ ]
 
 or_put : (b s r : Bool) → (cond b true s || r) ≡ (s || (b || r))

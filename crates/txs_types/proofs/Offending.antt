@@ -9,11 +9,12 @@ use Rattle.txs_syntax.specs.declared.file.ConDef.{ConDef}
 use Rattle.txs_types.specs.declared.fault.TypeFault.{TypeFault}
 use Rattle.txs_types.specs.Offends.{Offence, unknown, empty_type, big_type}
 use Rattle.txs_types.specs.Files.{is_undefined, types_used, types_of_fields, NotAfter, Decides}
-use Rattle.txs_types.specs.Told.{Finds}
-use Rattle.txs_types.specs.Among.{Least, AnyUndefined, BadDefault, none, big}
+use Rattle.txs_types.specs.Told.{Finds, Least}
+use Rattle.txs_types.specs.Among.{AnyUndefined, BadDefault, none, big}
 use Rattle.txs_types.proofs.Unique.{some_injective}
 use Rattle.txs_types.proofs.NotBoth.{none≢some}
-use Rattle.txs_types.proofs.Deciding.{finds_same, finds_least, taken_more}
+use Rattle.txs_types.proofs.Deciding.{taken_more}
+use Rattle.txs_types.proofs.ToldLaws.{finds_same, finds_least}
 use Rattle.txs_types.proofs.Collecting.{fields_append}
 
 not_after_itself : (o : Offence) → NotAfter o o

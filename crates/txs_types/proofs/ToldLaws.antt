@@ -1,12 +1,12 @@
 -- What is told of offences: the same of the same ones, and of two kinds of them what goes first.
-use Rattle.std.proofs.Common.{◌≡◌, ◌⊎◌, ◌<◌, ◌≤◌, ℕ, refl, sym, ap, subst, ◌∙◌, inl, inr, Option, Some, None, arith}
+use Rattle.std.proofs.Common.{◌≡◌, ◌⊎◌, ◌<◌, ◌≤◌, ℕ, refl, sym, ap, subst, ◌∙◌, inl, inr, Option, Some, None, option_map, arith}
 use Rattle.std.proofs.lemmas.Bool.{cases_order}
 use Rattle.txs_types.specs.declared.fault.TypeFault.{TypeFault}
 use Rattle.txs_types.specs.declared.fault.TypeFault.TheVariants as fault
 use Rattle.txs_types.specs.Offends.{Offence, twice, unknown, arity, mismatch, empty_type, big_type}
 use Rattle.txs_types.specs.Files.{Decides, NotAfter, place, rank}
 use Rattle.txs_types.specs.Answer.{offence_of, Told}
-use Rattle.txs_types.specs.Told.{order, IsBefore, Lesser, memory_first, left_first, right_first, Added, Finds}
+use Rattle.txs_types.specs.Told.{order, IsBefore, Lesser, memory_first, left_first, right_first, Least, Finds}
 use Rattle.txs_types.proofs.Unique.{some_injective}
 use Rattle.txs_types.proofs.NotBoth.{none≢some}
 
@@ -36,14 +36,12 @@ finds_same (Some f) P Q to back h = told_same f P Q to back h
 abbrev IsAt : TypeFault → ℕ × ℕ → Offence → Type 0
 IsAt f a o = (offence_of f ≡ Some o) × (place o ≡ a.0) × (rank o ≡ a.1)
 
+named_at : (n : Option Offence) (a : ℕ × ℕ) → option_map (λ o. (place o, rank o)) n ≡ Some a → (o : Offence) × ((n ≡ Some o) × (place o ≡ a.0) × (rank o ≡ a.1))
+named_at None a h = absurd (none≢some h)
+named_at (Some o) a h = (o, (refl, ap (λ p. p.0) (some_injective h), ap (λ p. p.1) (some_injective h)))
+
 at_order : (f : TypeFault) (a : ℕ × ℕ) → order f ≡ Some a → (o : Offence) × IsAt f a o
-at_order (fault.Twice at) a h = (twice at, (refl, ap (λ p. p.0) (some_injective h), ap (λ p. p.1) (some_injective h)))
-at_order (fault.Unknown at) a h = (unknown at, (refl, ap (λ p. p.0) (some_injective h), ap (λ p. p.1) (some_injective h)))
-at_order (fault.Arity at) a h = (arity at, (refl, ap (λ p. p.0) (some_injective h), ap (λ p. p.1) (some_injective h)))
-at_order (fault.Mismatch at) a h = (mismatch at, (refl, ap (λ p. p.0) (some_injective h), ap (λ p. p.1) (some_injective h)))
-at_order (fault.EmptyType at) a h = (empty_type at, (refl, ap (λ p. p.0) (some_injective h), ap (λ p. p.1) (some_injective h)))
-at_order (fault.BigType at) a h = (big_type at, (refl, ap (λ p. p.0) (some_injective h), ap (λ p. p.1) (some_injective h)))
-at_order fault.NoMemory a h = absurd (none≢some h)
+at_order f a h = named_at (offence_of f) a h
 
 pub told_decides : (f : TypeFault) (o : Offence) (P : Offence → Type 0) → offence_of f ≡ Some o → Told f P → Decides P o
 told_decides (fault.Twice at) o P e h = subst (Decides P) (some_injective e) h
@@ -115,7 +113,7 @@ told_either f g _ P Q d e (right_first a b p q k) =
     decides_told g y.0 (Either P Q) y.1.0
     (second_of_both P Q x.0 y.0 (told_decides f x.0 P x.1.0 d) (told_decides g y.0 Q y.1.0 e) (apart_back x.0 y.0 a b (x.1.1, x.1.2) (y.1.1, y.1.2) k))
 
-pub only_left : (P Q : Offence → Type 0) → ((o : Offence) → Q o → ⊥) → (o : Offence) → Either P Q o → P o
+only_left : (P Q : Offence → Type 0) → ((o : Offence) → Q o → ⊥) → (o : Offence) → Either P Q o → P o
 only_left P Q none o (inl p) = p
 only_left P Q none o (inr q) = absurd (none o q)
 
@@ -134,14 +132,12 @@ pub none_of_both : (P Q : Offence → Type 0) → ((o : Offence) → P o → ⊥
 none_of_both P Q p q o (inl h) = p o h
 none_of_both P Q p q o (inr h) = q o h
 
--- one more fault is told
-pub finds_added : (f : Option TypeFault) (g : TypeFault) (r : Option TypeFault) (P Q : Offence → Type 0) → Finds f P → Told g Q → Added f g r → Finds r (Either P Q)
-finds_added None g r P Q none e h = subst (λ r. Finds r (Either P Q)) (sym h) (told_right g P Q none e)
-finds_added (Some f) g r P Q d e h = subst (λ r. Finds r (Either P Q)) (sym h.1) (told_either f g h.0 P Q d e h.2)
+-- of two kinds, each of which may have been told
+pub finds_least : (f g r : Option TypeFault) (P Q : Offence → Type 0) → Least f g r → Finds f P → Finds g Q → Finds r (Either P Q)
+finds_least None g r P Q l p q = subst (λ r. Finds r (Either P Q)) (sym l) (finds_same g Q (Either P Q) (λ o h. inr h) (only_right P Q p) q)
+finds_least (Some f) None r P Q l p q = subst (λ r. Finds r (Either P Q)) (sym l) (told_left f P Q p q)
+finds_least (Some f) (Some g) r P Q l p q = subst (λ r. Finds r (Either P Q)) (sym l.1) (told_either f g l.0 P Q p q l.2)
 
 -- of one offence that one is told
 pub unknown_told : (at : ℕ) → Told (fault.Unknown at) (λ o. o ≡ unknown at)
 unknown_told at = record { stands = refl; first = λ p e. subst (NotAfter (unknown at)) (sym e) (inr (refl, omega arith)) }
-
-pub twice_told : (at : ℕ) → Told (fault.Twice at) (λ o. o ≡ twice at)
-twice_told at = record { stands = refl; first = λ p e. subst (NotAfter (twice at)) (sym e) (inr (refl, omega arith)) }

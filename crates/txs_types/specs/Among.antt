@@ -7,20 +7,12 @@ use Rattle.txs_syntax.specs.declared.ast.Name.{Name}
 use Rattle.txs_syntax.specs.declared.file.File.{File}
 use Rattle.txs_syntax.specs.declared.file.Def.{Def}
 use Rattle.txs_syntax.specs.declared.file.Def.TheVariants as def
-use Rattle.txs_types.specs.declared.fault.TypeFault.{TypeFault}
 use Rattle.txs_types.specs.declared.scope.Scope as rust_scope
 use Rattle.txs_types.specs.Names.{built_ins}
 use Rattle.txs_types.specs.Elaborates.{HasInts}
 use Rattle.txs_types.specs.Offends.{Offence, twice, unknown, empty_type, big_type, Offends}
 use Rattle.txs_types.specs.Files.{type_names, type_of, variables_of, types_named, names_in, defined_names, is_undefined, built_in_types, built_in_names, excused, scope_in, globals_in, Repeats}
-use Rattle.txs_types.specs.Told.{Lesser}
 use Rattle.txs_types.specs.View.{globals_of}
-
--- of two faults that may be, the one that goes first
-abbrev pub Least : Option TypeFault → Option TypeFault → Option TypeFault → Type 0
-Least None g r = r ≡ g
-Least (Some f) None r = r ≡ Some f
-Least (Some f) (Some g) r = (h : TypeFault) × (r ≡ Some h) × Lesser f g h
 
 -- the offence stands at one of these, each with its number
 pub record Among {A : Type 0} (At : ℕ → A → Offence → Type 0) (xs : List A) (o : Offence) : Type 0 where

@@ -1,17 +1,17 @@
 -- Within the crate: what is collected of the bodies of a file.
-use Rattle.std.specs.Prelude.{◌≡◌, List, [], ◌∷◌, ◌++◌, map, Some, None, Result, Ok, Err}
+use Rattle.std.specs.Prelude.{◌≡◌, List, [], ◌∷◌, ◌++◌, map, None, Result, Ok, Err, Some}
 use Rattle.txs_syntax.specs.declared.file.File.{File}
 use Rattle.txs_syntax.specs.declared.file.Def.{Def}
 use Rattle.txs_terms.specs.View.{function_of, constant_of}
 use Rattle.txs_terms.specs.declared.defs.FunctionDef.{FunctionDef}
 use Rattle.txs_terms.specs.declared.defs.ConstantDef.{ConstantDef}
 use Rattle.txs_types.specs.declared.fault.TypeFault.{TypeFault}
-use Rattle.txs_types.specs.declared.bodies.Functions as functions
-use Rattle.txs_types.specs.declared.bodies.Constants as constants
+use Rattle.txs_types.specs.declared.bodies.Found as rust_found
+use Rattle.txs_types.specs.Offends.{Offence}
 use Rattle.txs_types.specs.Files.{AreFunctions, AreConstants}
-use Rattle.txs_types.specs.Told.{Finds}
+use Rattle.txs_types.specs.Told.{Finds, Least}
 use Rattle.txs_types.specs.Answer.{Told}
-use Rattle.txs_types.specs.Among.{Least, AmongDefs, InFunction, InConstant, FunctionsHaveInts, ConstantsHaveInts}
+use Rattle.txs_types.specs.Among.{AmongDefs, InFunction, InConstant, FunctionsHaveInts, ConstantsHaveInts}
 
 -- the functions that these definitions mean, and the numbers in their bodies are in the range of Int
 pub record FunctionsMeant (file : File) (ds : List Def) (fs : List FunctionDef) : Type 0 where
@@ -22,29 +22,30 @@ pub record ConstantsMeant (file : File) (ds : List Def) (ks : List ConstantDef) 
   pub meant : AreConstants file ds (map constant_of ks)
   pub ints : ConstantsHaveInts ds
 
--- the function that the definition means, if it is one, or the fault that decides in its body
-abbrev pub FunctionIn : File → Def → Result (List FunctionDef) TypeFault → Type 0
-FunctionIn file d (Ok fs) = FunctionsMeant file (d ∷ []) fs
-FunctionIn file d (Err f) = Told f (InFunction file d)
-
-abbrev pub ConstantIn : File → Def → Result (List ConstantDef) TypeFault → Type 0
-ConstantIn file d (Ok ks) = ConstantsMeant file (d ∷ []) ks
-ConstantIn file d (Err f) = Told f (InConstant file d)
+-- what the definition means, or the fault that decides in its body
+abbrev pub Judged : {A : Type 0} → (List Def → List A → Type 0) → (Def → Offence → Type 0) → Def → Result (List A) TypeFault → Type 0
+Judged Meant In d (Ok xs) = Meant (d ∷ []) xs
+Judged Meant In d (Err f) = Told f (In d)
 
 -- with what was judged of one more definition
-abbrev pub FunctionAdded : functions.Functions → Result (List FunctionDef) TypeFault → functions.Functions → Type 0
-FunctionAdded old (Ok fs) new = (new.list ≡ old.list ++ fs) × (new.fault ≡ old.fault)
-FunctionAdded old (Err f) new = Least old.fault (Some f) new.fault
+abbrev pub IsAdded : {A : Type 0} → rust_found.Found A → Result (List A) TypeFault → rust_found.Found A → Type 0
+IsAdded old (Ok xs) new = (new.list ≡ old.list ++ xs) × (new.fault ≡ old.fault)
+IsAdded old (Err f) new = Least old.fault (Some f) new.fault
 
-abbrev pub ConstantAdded : constants.Constants → Result (List ConstantDef) TypeFault → constants.Constants → Type 0
-ConstantAdded old (Ok ks) new = (new.list ≡ old.list ++ ks) × (new.fault ≡ old.fault)
-ConstantAdded old (Err f) new = Least old.fault (Some f) new.fault
+-- the offences in these definitions are found, and where there is none they mean what is listed
+pub record IsFound {A : Type 0} (Meant : List Def → List A → Type 0) (In : Def → Offence → Type 0) (ds : List Def) (s : rust_found.Found A) : Type 0 where
+  pub finds : Finds s.fault (AmongDefs In ds)
+  pub made : s.fault ≡ None → Meant ds s.list
 
--- the offences in these definitions are found, and where there is none the functions are theirs
-pub record FunctionsFound (file : File) (ds : List Def) (s : functions.Functions) : Type 0 where
-  pub finds : Finds s.fault (AmongDefs (InFunction file) ds)
-  pub made : s.fault ≡ None → FunctionsMeant file ds s.list
+-- the function that the definition means, if it is one
+abbrev pub FunctionIn : File → Def → Result (List FunctionDef) TypeFault → Type 0
+FunctionIn file = Judged (FunctionsMeant file) (InFunction file)
 
-pub record ConstantsFound (file : File) (ds : List Def) (s : constants.Constants) : Type 0 where
-  pub finds : Finds s.fault (AmongDefs (InConstant file) ds)
-  pub made : s.fault ≡ None → ConstantsMeant file ds s.list
+abbrev pub ConstantIn : File → Def → Result (List ConstantDef) TypeFault → Type 0
+ConstantIn file = Judged (ConstantsMeant file) (InConstant file)
+
+abbrev pub FunctionsFound : File → List Def → rust_found.Found FunctionDef → Type 0
+FunctionsFound file = IsFound (FunctionsMeant file) (InFunction file)
+
+abbrev pub ConstantsFound : File → List Def → rust_found.Found ConstantDef → Type 0
+ConstantsFound file = IsFound (ConstantsMeant file) (InConstant file)

@@ -1,19 +1,14 @@
 -- Within the crate: which of two faults goes first, and what is made of two results.
-use Rattle.std.specs.Prelude.{◌≡◌, ◌⊎◌, ◌<◌, ℕ, Option, Some, None, Result, Ok, Err}
+use Rattle.std.specs.Prelude.{◌≡◌, ◌⊎◌, ◌<◌, ℕ, Option, Some, None, option_map, Result, Ok, Err}
 use Rattle.txs_types.specs.declared.fault.TypeFault.{TypeFault}
 use Rattle.txs_types.specs.declared.fault.TypeFault.TheVariants as fault
 use Rattle.txs_types.specs.Offends.{Offence}
-use Rattle.txs_types.specs.Answer.{Told}
+use Rattle.txs_types.specs.Files.{place, rank}
+use Rattle.txs_types.specs.Answer.{offence_of, Told}
 
 -- the place of a fault, and its rank among those at one place
 abbrev pub order : TypeFault → Option (ℕ × ℕ)
-order (fault.Twice at) = Some (at, 0)
-order (fault.Unknown at) = Some (at, 1)
-order (fault.Arity at) = Some (at, 2)
-order (fault.Mismatch at) = Some (at, 3)
-order (fault.EmptyType at) = Some (at, 4)
-order (fault.BigType at) = Some (at, 5)
-order fault.NoMemory = None
+order f = option_map (λ o. (place o, rank o)) (offence_of f)
 
 abbrev pub IsBefore : ℕ × ℕ → ℕ × ℕ → Type 0
 IsBefore a b = (a.0 < b.0) ⊎ (a.0 ≡ b.0) × (a.1 < b.1)
@@ -31,10 +26,11 @@ Joined (Ok x) (Err g) r = r ≡ Err g
 Joined (Err f) (Ok y) r = r ≡ Err f
 Joined (Err f) (Err g) r = (h : TypeFault) × (r ≡ Err h) × Lesser f g h
 
--- what was told so far, with one more fault
-abbrev pub Added : Option TypeFault → TypeFault → Option TypeFault → Type 0
-Added None g r = r ≡ Some g
-Added (Some f) g r = (h : TypeFault) × (r ≡ Some h) × Lesser f g h
+-- of two faults that may be, the one that goes first
+abbrev pub Least : Option TypeFault → Option TypeFault → Option TypeFault → Type 0
+Least None g r = r ≡ g
+Least (Some f) None r = r ≡ Some f
+Least (Some f) (Some g) r = (h : TypeFault) × (r ≡ Some h) × Lesser f g h
 
 -- no such offence stands, or the fault tells which decides
 abbrev pub Finds : Option TypeFault → (Offence → Type 0) → Type 0

@@ -1,4 +1,4 @@
--- Within the crate: what the program's names, scopes and results stand for.
+-- What the needed types, names, scopes and results of the program stand for. All but the first are for contracts within the crate.
 use Rattle.std.specs.Prelude.{ℕ, List, map, Option, option_map, Result, Ok, Err}
 use Rattle.txs_values.specs.declared.ty.Ty as rust_ty
 use Rattle.txs_values.specs.Value.{Ty}
@@ -19,6 +19,7 @@ use Rattle.txs_types.specs.Elaborates.{Elaborates, HasInts}
 use Rattle.txs_types.specs.Offends.{OffendsAt, Offends}
 use Rattle.txs_types.specs.Answer.{Told}
 
+-- the needed type, if there is one
 abbrev pub want_of : Option rust_ty.Ty → Option Ty
 want_of t = option_map ty_of t
 

@@ -2,7 +2,7 @@ ghost use Rattle.std.specs.Prelude.{◌≡◌, IfOk, OnOk, length};
 ghost use Rattle.txs_syntax.specs.declared.file.Def.TheVariants as def;
 ghost use Rattle.txs_types.specs.Files as files;
 ghost use Rattle.txs_types.specs.Among.{IsOfFile};
-ghost use Rattle.txs_types.specs.Collected.{FunctionIn, FunctionAdded, FunctionsFound, ConstantIn, ConstantAdded, ConstantsFound};
+ghost use Rattle.txs_types.specs.Collected.{FunctionIn, FunctionsFound, ConstantIn, ConstantsFound, IsAdded};
 
 use crate::declarations::{type_of, variables_of};
 use crate::expression::expression;
@@ -17,35 +17,16 @@ use txs_syntax::{Ast, DeclList, Def, File, Name};
 use txs_terms::{ConstantDef, FunctionDef};
 use txs_values::NoMemory;
 
-/// The functions so far, and the first fault in the others.
+/// The functions, or the constants, so far, and the fault that decides in the others.
 #[derive(Debug, Drop)]
-pub struct Functions {
-    pub list: Items<FunctionDef>,
+pub struct Found<T> {
+    pub list: Items<T>,
     pub fault: Option<TypeFault>,
 }
 
-impl Functions {
-    fn add(&mut self, judged: Result<Items<FunctionDef>, TypeFault>) -> Result<(), NoMemory>
-        ensures { OnOk result (FunctionAdded self.old judged self.new) }
-    {
-        match judged {
-            Ok(more) => self.list.append(more)?,
-            Err(fault) => self.fault = least(self.fault, Some(fault)),
-        }
-        Ok(())
-    }
-}
-
-/// The constants so far, and the first fault in the others.
-#[derive(Debug, Drop)]
-pub struct Constants {
-    pub list: Items<ConstantDef>,
-    pub fault: Option<TypeFault>,
-}
-
-impl Constants {
-    fn add(&mut self, judged: Result<Items<ConstantDef>, TypeFault>) -> Result<(), NoMemory>
-        ensures { OnOk result (ConstantAdded self.old judged self.new) }
+impl<T: Drop> Found<T> {
+    fn add(&mut self, judged: Result<Items<T>, TypeFault>) -> Result<(), NoMemory>
+        ensures { OnOk result (IsAdded self.old judged self.new) }
     {
         match judged {
             Ok(more) => self.list.append(more)?,
@@ -115,13 +96,13 @@ pub fn functions_of(
     scope: &mut Scope,
     types: &[Name],
     file: &File,
-) -> Result<Functions, NoMemory>
+) -> Result<Found<FunctionDef>, NoMemory>
     requires types { types.now ≡ files.type_names file.now.defs }
     requires scope { IsOfFile file.now scope.old }
     ensures found { IfOk result (λ s. FunctionsFound file.now file.now.defs s) }
     ensures scope { IsOfFile file.now scope.new }
 {
-    let mut functions = Functions {
+    let mut functions = Found {
         list: Items::new(alloc),
         fault: None,
     };
@@ -183,13 +164,13 @@ pub fn constants_of(
     scope: &mut Scope,
     types: &[Name],
     file: &File,
-) -> Result<Constants, NoMemory>
+) -> Result<Found<ConstantDef>, NoMemory>
     requires types { types.now ≡ files.type_names file.now.defs }
     requires scope { IsOfFile file.now scope.old }
     ensures found { IfOk result (λ s. ConstantsFound file.now file.now.defs s) }
     ensures scope { IsOfFile file.now scope.new }
 {
-    let mut constants = Constants {
+    let mut constants = Found {
         list: Items::new(alloc),
         fault: None,
     };

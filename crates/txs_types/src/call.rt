@@ -9,12 +9,13 @@ ghost use Rattle.txs_types.specs.Names as names;
 ghost use Rattle.txs_types.specs.Elaborates.{Makes};
 ghost use Rattle.txs_types.specs.View.{scope_of, want_of, wants_of, meaning_of, called_of};
 ghost use Rattle.txs_types.specs.Parts as parts;
-ghost use Rattle.txs_types.specs.Parts.{Applies, Gathers};
+ghost use Rattle.txs_types.specs.Parts.{Applies, CallsWith, Gathers};
 
 use crate::fault::{TypeFault, lesser};
 use crate::meaning::Meaning;
 use crate::scope::{Called, Scope};
 use crate::typed::Typed;
+use crate::whole::whole;
 use sqlite_items::{Boxed, Items};
 use std::alloc::Global;
 use txs_syntax::Ast;
@@ -104,6 +105,31 @@ pub fn applied(alloc: Global, called: &Called, ty: Ty, args: Exprs) -> Result<Ex
         Meaning::FromText => one(alloc, Unary::FromText(ty), args),
         Meaning::Length => one(alloc, Unary::Length, args),
         Meaning::CharAt => char_at(alloc, args),
+    }
+}
+
+/// A call with these arguments, as many as it takes.
+pub fn called_with(
+    alloc: Global,
+    scope: &Scope,
+    want: Option<Ty>,
+    at: usize,
+    called: &Called,
+    found: Result<Exprs, TypeFault>,
+) -> Result<Typed, TypeFault>
+    requires takes { let c = called_of called.now in names.takes c.0 ≡ Some c.1 }
+    requires many { IfOk found (λ es. length es ≡ length called.now.needs) }
+    ensures { CallsWith (scope_of scope.now) (want_of want) at ((called_of called.now).0) found result }
+{
+    match found {
+        Ok(args) => match call_type(called.means, want) {
+            Some(ty) => {
+                let made = applied(alloc, called, ty, args);
+                whole(scope, want, at, made, ty)
+            }
+            None => Err(TypeFault::Mismatch { at }),
+        },
+        Err(fault) => Err(fault),
     }
 }
 

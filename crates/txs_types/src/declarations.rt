@@ -1,15 +1,13 @@
-ghost use Rattle.std.specs.Prelude.{◌≡◌, ◌++◌, IfOk, OnOk, ℕ, Some, true, map, slice_get, MatchBool};
+ghost use Rattle.std.specs.Prelude.{◌≡◌, ◌++◌, ◌∷◌, [], IfOk, OnOk, map};
 ghost use Rattle.txs_values.specs.View.{ty_of};
 ghost use Rattle.txs_values.specs.TableView.{field_of};
-ghost use Rattle.txs_syntax.specs.declared.ast.Name.{Name as TheName};
-ghost use Rattle.txs_types.specs.declared.fault.TypeFault.TheVariants as fault;
-ghost use Rattle.txs_types.specs.Offends.{unknown};
 ghost use Rattle.txs_types.specs.Files as files;
-ghost use Rattle.txs_types.specs.Told.{Finds, Added};
+ghost use Rattle.txs_types.specs.Told.{Finds};
+ghost use Rattle.txs_types.specs.Among.{AnyUndefined};
 
 use crate::fault::TypeFault;
+use crate::least::least;
 use crate::table_names::number_of;
-use crate::told::added;
 use sqlite_items::Items;
 use std::alloc::Global;
 use txs_syntax::{DeclList, Name};
@@ -123,25 +121,24 @@ pub fn is_undefined(types: &[Name], name: &Name) -> bool
     !is_built_in(&name.text) && !is_named(types, &name.text)
 }
 
-/// What was told so far, with a type name more, which may have no definition.
-pub fn with_undefined(told: Option<TypeFault>, types: &[Name], name: &Name) -> Option<TypeFault>
-    ensures { MatchBool (files.is_undefined types.now name.now) (Added told (fault.Unknown name.now.at) result) (result ≡ told) }
+/// The type name, where it has no definition.
+pub fn undefined_name(types: &[Name], name: &Name) -> Option<TypeFault>
+    ensures { Finds result (AnyUndefined types.now (name.now ∷ [])) }
 {
     if is_undefined(types, name) {
-        added(told, TypeFault::Unknown { at: name.at })
+        Some(TypeFault::Unknown { at: name.at })
     } else {
-        told
+        None
     }
 }
 
-/// The first place of a type name without a definition, among the types of declarations.
+/// Of the type names without a definition, among the types of declarations, the one of least place.
 pub fn undefined(types: &[Name], list: &DeclList) -> Option<TypeFault>
-    ensures { Finds result (λ o. (j : ℕ) × (n : TheName) × (slice_get (files.types_used list.now.decls) j ≡ Some n)
-        × (files.is_undefined types.now n ≡ true) × (o ≡ unknown n.at)) }
+    ensures { Finds result (AnyUndefined types.now (files.types_used list.now.decls)) }
 {
-    let mut told = None;
+    let mut fault = None;
     for decl in list.decls.as_slice() {
-        told = with_undefined(told, types, &decl.ty);
+        fault = least(fault, undefined_name(types, &decl.ty));
     }
-    told
+    fault
 }

@@ -6,15 +6,15 @@ ghost use Rattle.txs_types.specs.Offends.{Offends, earlier, later};
 ghost use Rattle.txs_types.specs.View.{scope_of, want_of, wants_of, Judges, JudgesAt};
 ghost use Rattle.txs_types.specs.Parts.{Typed as TheTyped, Means, Tells, Sides, InOrder, OffendInOrder, JudgesEach, Strays};
 
-use crate::call::{gathered, stray_needs, strayed};
+use crate::call::{called_with, gathered, stray_needs, strayed};
 use crate::fault::TypeFault;
-use crate::leaf::{called_with, named, number, quoted};
-use crate::made::{
-    bound, chosen, first, joined, negated, operand, operated, outcome, right_first, shown, turned,
-    whole,
-};
+use crate::joined::{joined, turned};
+use crate::leaf::{named, number, quoted};
+use crate::node::{bound, chosen, negated, operated};
+use crate::operator::{operand, outcome, right_first};
 use crate::scope::Scope;
 use crate::typed::Typed;
+use crate::whole::{first, shown, whole};
 use sqlite_items::{Boxed, Items};
 use std::alloc::Global;
 use txs_syntax::{Ast, Name, Op};

@@ -9,7 +9,7 @@ use txs_values::NoMemory;
 /// Why definitions, or an expression, are not accepted; `at` is a byte of the text, at which the offending token begins.
 #[derive(Clone, Copy, Debug, PartialEq, Eq, Error)]
 pub enum TypeFault {
-    #[error("the name stands there already: choose another one")]
+    #[error("the name is taken already: choose another one")]
     Twice { at: usize },
     #[error("nothing of this name is defined here")]
     Unknown { at: usize },
@@ -64,11 +64,11 @@ fn order(fault: TypeFault) -> Option<(usize, u8)>
     }
 }
 
-/// Whether the second of two offences stands before the first.
-fn stands_before(a: (usize, u8), b: (usize, u8)) -> bool
-    ensures { IsTrue result ↔ IsBefore b a }
+/// Whether the first of two places, each with a rank, goes before the second.
+fn is_before(a: (usize, u8), b: (usize, u8)) -> bool
+    ensures { IsTrue result ↔ IsBefore a b }
 {
-    b.0 < a.0 || (b.0 == a.0 && b.1 < a.1)
+    a.0 < b.0 || (a.0 == b.0 && a.1 < b.1)
 }
 
 /// That of two faults which decides; want of memory goes before all.
@@ -76,7 +76,7 @@ pub fn lesser(a: TypeFault, b: TypeFault) -> TypeFault
     ensures { Lesser a b result }
 {
     match (order(a), order(b)) {
-        (Some(x), Some(y)) => if stands_before(x, y) { b } else { a },
+        (Some(x), Some(y)) => if is_before(y, x) { b } else { a },
         _ => TypeFault::NoMemory,
     }
 }

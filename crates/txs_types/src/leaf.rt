@@ -1,20 +1,17 @@
-ghost use Rattle.std.specs.Prelude.{◌≡◌, ℕ, Some, IfOk, length};
+ghost use Rattle.std.specs.Prelude.{◌≡◌, ℕ};
 ghost use Rattle.txs_values.specs.Value.{num};
 ghost use Rattle.txs_terms.specs.Expr as of;
 ghost use Rattle.txs_terms.specs.View.{expr_of};
 ghost use Rattle.txs_syntax.specs.declared.ast.Ast.TheVariants as tree;
-ghost use Rattle.txs_types.specs.Names as names;
-ghost use Rattle.txs_types.specs.View.{scope_of, want_of, called_of, JudgesAt};
-ghost use Rattle.txs_types.specs.Parts.{CallsWith};
+ghost use Rattle.txs_types.specs.View.{scope_of, want_of, JudgesAt};
 
-use crate::call::{applied, call_type};
 use crate::fault::TypeFault;
-use crate::made::whole;
-use crate::scope::{Called, Scope};
+use crate::scope::Scope;
 use crate::typed::Typed;
+use crate::whole::whole;
 use std::alloc::Global;
 use txs_syntax::Name;
-use txs_terms::{Expr, Exprs};
+use txs_terms::Expr;
 use txs_values::{Text, Ty, Value};
 
 fn int(value: i128) -> Expr
@@ -63,30 +60,5 @@ pub fn named(
         Ok(Some(typed)) => whole(scope, want, at, Ok(typed.expr), typed.ty),
         Ok(None) => Err(TypeFault::Unknown { at: name.at }),
         Err(_) => Err(TypeFault::NoMemory),
-    }
-}
-
-/// A call with these arguments, as many as it takes.
-pub fn called_with(
-    alloc: Global,
-    scope: &Scope,
-    want: Option<Ty>,
-    at: usize,
-    called: &Called,
-    found: Result<Exprs, TypeFault>,
-) -> Result<Typed, TypeFault>
-    requires takes { let c = called_of called.now in names.takes c.0 ≡ Some c.1 }
-    requires many { IfOk found (λ es. length es ≡ length called.now.needs) }
-    ensures { CallsWith (scope_of scope.now) (want_of want) at ((called_of called.now).0) found result }
-{
-    match found {
-        Ok(args) => match call_type(called.means, want) {
-            Some(ty) => {
-                let made = applied(alloc, called, ty, args);
-                whole(scope, want, at, made, ty)
-            }
-            None => Err(TypeFault::Mismatch { at }),
-        },
-        Err(fault) => Err(fault),
     }
 }

@@ -1,4 +1,4 @@
-ghost use Rattle.txs_types.specs.Among.{Least};
+ghost use Rattle.txs_types.specs.Told.{Least};
 
 use crate::fault::{TypeFault, lesser};
 

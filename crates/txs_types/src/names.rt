@@ -1,13 +1,12 @@
-ghost use Rattle.std.specs.Prelude.{◌≡◌, IfOk, IfErr, OnOk, ℕ, List, MatchBool, cond, bytes_eq, true, map};
+ghost use Rattle.std.specs.Prelude.{◌≡◌, IfOk, OnOk, ℕ, List, MatchBool, Some, None, cond, bytes_eq, true};
 ghost use Rattle.std.specs.BTreeSet.{contains_text};
-ghost use Rattle.txs_syntax.specs.declared.ast.Name.{Name as TheName};
 ghost use Rattle.txs_types.specs.declared.fault.TypeFault.TheVariants as fault;
-ghost use Rattle.txs_types.specs.Offends.{twice};
-ghost use Rattle.txs_types.specs.Files.{Repeats, is_among};
-ghost use Rattle.txs_types.specs.Told.{Finds, Added};
+ghost use Rattle.txs_types.specs.Files.{is_among};
+ghost use Rattle.txs_types.specs.Told.{Finds};
+ghost use Rattle.txs_types.specs.Among.{IsTwice};
 
 use crate::fault::TypeFault;
-use crate::told::added;
+use crate::least::least;
 use std::alloc::Global;
 use std::collections::BTreeSet;
 use txs_syntax::Name;
@@ -32,30 +31,30 @@ fn set_of(alloc: Global, texts: &[Text]) -> Result<BTreeSet<String>, NoMemory>
     Ok(seen)
 }
 
-/// What was told so far, with a name more, which may stand before already.
-fn with_repeated(told: Option<TypeFault>, seen: &BTreeSet<String>, name: &Name) -> Option<TypeFault>
-    ensures { MatchBool (contains_text seen.now name.now.text) (Added told (fault.Twice name.now.at) result) (result ≡ told) }
+/// The fault of a name that stands before already.
+fn repeated_name(seen: &BTreeSet<String>, name: &Name) -> Option<TypeFault>
+    ensures { MatchBool (contains_text seen.now name.now.text) (result ≡ Some (fault.Twice name.now.at)) (result ≡ None) }
 {
     if seen.contains(name.text.as_str()) {
-        added(told, TypeFault::Twice { at: name.at })
+        Some(TypeFault::Twice { at: name.at })
     } else {
-        told
+        None
     }
 }
 
-/// The first place of a name that stands before it already, or is one of these.
+/// Of the names that stand before already, or are one of these, the fault of the one that decides.
 pub fn repeated(
     alloc: Global,
     before: &[Text],
     names: &[Name],
 ) -> Result<Option<TypeFault>, NoMemory>
-    ensures { IfOk result (λ f. Finds f (λ o. (at : ℕ) × (o ≡ twice at) × Repeats before.now names.now at)) }
+    ensures { IfOk result (λ f. Finds f (IsTwice before.now names.now)) }
 {
     let mut seen = set_of(alloc, before)?;
-    let mut told = None;
+    let mut fault = None;
     for name in names {
-        told = with_repeated(told, &seen, name);
+        fault = least(fault, repeated_name(&seen, name));
         add_text(alloc, &mut seen, &name.text)?;
     }
-    Ok(told)
+    Ok(fault)
 }

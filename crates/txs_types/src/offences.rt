@@ -1,18 +1,17 @@
-ghost use Rattle.std.specs.Prelude.{◌≡◌, IfOk, IsTrue, ◌↔◌, ◌⊎◌, ◌<◌, [], ◌∷◌};
+ghost use Rattle.std.specs.Prelude.{◌≡◌, IfOk, IsTrue, ◌↔◌, ◌⊎◌, ◌<◌, []};
 ghost use Rattle.txs_types.specs.Files as files;
 ghost use Rattle.txs_types.specs.Told.{Finds};
 ghost use Rattle.txs_types.specs.Among.{Among, AmongDefs, IsTwice, AnyUndefined, TwiceIn, UnknownIn, BadDefault};
 
-use crate::declarations::{names_in, undefined};
+use crate::declarations::{names_in, undefined, undefined_name};
 use crate::definitions::defined_names;
 use crate::fault::TypeFault;
 use crate::file_names::{built_ins, number_after, texts_of};
-use crate::file_types::is_undefined;
 use crate::least::least;
 use crate::names::repeated;
 use sqlite_items::Items;
 use std::alloc::Global;
-use txs_syntax::{ConDef, Decl, DeclList, Def, Name};
+use txs_syntax::{ConDef, DeclList, Def, Name};
 use txs_values::{Extent, NoMemory, Text, Ty, TypeTable, default_extent};
 
 fn built_in_types(alloc: Global) -> Result<Items<Text>, NoMemory>
@@ -25,7 +24,7 @@ fn built_in_types(alloc: Global) -> Result<Items<Text>, NoMemory>
     Ok(texts)
 }
 
-/// The first name of a type that is there already.
+/// Of the names of types that are taken already, the fault of the one of least place.
 pub fn twice_type(alloc: Global, types: &[Name]) -> Result<Option<TypeFault>, NoMemory>
     ensures { IfOk result (λ f. Finds f (IsTwice files.built_in_types types.now)) }
 {
@@ -40,7 +39,7 @@ fn built_in_names(alloc: Global) -> Result<Items<Text>, NoMemory>
     texts_of(alloc, globals.as_slice())
 }
 
-/// The first name of an expression that is there already.
+/// Of the names in expressions that are taken already, the fault of the one of least place.
 pub fn twice_name(alloc: Global, defs: &[Def]) -> Result<Option<TypeFault>, NoMemory>
     ensures { IfOk result (λ f. Finds f (IsTwice files.built_in_names (files.defined_names defs.now))) }
 {
@@ -66,7 +65,7 @@ fn twice_in(alloc: Global, def: &Def) -> Result<Option<TypeFault>, NoMemory>
     }
 }
 
-/// The first parameter that is there already.
+/// Of the parameters whose names are taken already, the fault of the one of least place.
 pub fn twice_parameter(alloc: Global, defs: &[Def]) -> Result<Option<TypeFault>, NoMemory>
     ensures { IfOk result (λ f. Finds f (AmongDefs TwiceIn defs.now)) }
 {
@@ -75,17 +74,6 @@ pub fn twice_parameter(alloc: Global, defs: &[Def]) -> Result<Option<TypeFault>,
         fault = least(fault, twice_in(alloc, def)?);
     }
     Ok(fault)
-}
-
-/// The type name, where it has no definition.
-fn undefined_name(types: &[Name], name: &Name) -> Option<TypeFault>
-    ensures { Finds result (AnyUndefined types.now (name.now ∷ [])) }
-{
-    if is_undefined(types, name) {
-        Some(TypeFault::Unknown { at: name.at })
-    } else {
-        None
-    }
 }
 
 fn undefined_field(types: &[Name], cons: &[ConDef]) -> Option<TypeFault>
@@ -110,7 +98,7 @@ fn unknown_in(types: &[Name], def: &Def) -> Option<TypeFault>
     }
 }
 
-/// The first type name without a definition.
+/// Of the type names without a definition, the fault of the one of least place.
 pub fn unknown_type(types: &[Name], defs: &[Def]) -> Option<TypeFault>
     ensures { Finds result (AmongDefs (UnknownIn types.now) defs.now) }
 {
@@ -152,7 +140,7 @@ fn bad_default(
     }
 }
 
-/// The first type without a default, or with too large or high a one.
+/// Of the types without a default, or with too large or high a one, the fault of the one of least place.
 pub fn bad_type(
     alloc: Global,
     table: &TypeTable,

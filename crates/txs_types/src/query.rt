@@ -1,4 +1,4 @@
-ghost use Rattle.std.specs.Prelude.{◌≡◌, IfOk, IfErr, MatchOption, []};
+ghost use Rattle.std.specs.Prelude.{◌≡◌, IfOk, IfErr, []};
 ghost use Rattle.txs_values.specs.Value.{Ty as TheType, field_types};
 ghost use Rattle.txs_terms.specs.Typed.{Of};
 ghost use Rattle.txs_terms.specs.Defs.{signatures_of};
@@ -8,18 +8,18 @@ ghost use Rattle.txs_types.specs.Files.{query_scope, QueryOffends, names_of, var
 ghost use Rattle.txs_types.specs.Laws.{IsNeed};
 ghost use Rattle.txs_types.specs.Offends.{Offence};
 ghost use Rattle.txs_types.specs.Answer.{Told, IsSafe};
-ghost use Rattle.txs_types.specs.Told.{Finds, Added};
-ghost use Rattle.txs_types.specs.Queries.{DeclarationOffends, Decided};
+ghost use Rattle.txs_types.specs.Told.{Finds};
+ghost use Rattle.txs_types.specs.Queries.{InDeclarations, Decided};
 ghost use Rattle.txs_values.specs.TableView.{table_of};
 ghost use Rattle.txs_types.specs.View.{want_of, scope_of};
 
 use crate::declarations::{names_in, undefined, variables_of};
 use crate::expression::expression;
 use crate::fault::{TypeFault, lesser};
+use crate::least::least;
 use crate::names::repeated;
 use crate::scope::Scope;
 use crate::table_names::{global_names, number_of};
-use crate::told::added;
 use crate::typed::Typed;
 use sqlite_items::Items;
 use std::alloc::Global;
@@ -39,27 +39,17 @@ fn type_names(alloc: Global, table: &[TypeDef]) -> Result<Items<Name>, NoMemory>
     Ok(types)
 }
 
-/// Of two faults, where they are told, the one that goes first.
-fn first_of(a: Option<TypeFault>, b: Option<TypeFault>) -> Option<TypeFault>
-    ensures { MatchOption b (result ≡ a) (λ g. Added a g result) }
-{
-    match b {
-        None => a,
-        Some(fault) => added(a, fault),
-    }
-}
-
 /// The fault in declarations that decides, where the types have these names.
 fn declaration_fault(
     alloc: Global,
     types: &[Name],
     decls: &DeclList,
 ) -> Result<Option<TypeFault>, NoMemory>
-    ensures { IfOk result (λ f. Finds f (DeclarationOffends types.now decls.now)) }
+    ensures { IfOk result (λ f. Finds f (InDeclarations types.now decls.now)) }
 {
     let names = names_in(alloc, decls)?;
     let twice = repeated(alloc, &[], names.as_slice())?;
-    Ok(first_of(twice, undefined(types, decls)))
+    Ok(least(twice, undefined(types, decls)))
 }
 
 /// The scope of an expression over definitions, whose types have these names, and declarations.

@@ -105,7 +105,11 @@ fn two_needs(alloc: Global, first: Ty, second: Ty) -> Result<Items<Option<Ty>>, 
 }
 
 /// The types at which what is called needs its arguments.
-fn takes(alloc: Global, means: Meaning, takes: &[Ty]) -> Result<Option<Items<Option<Ty>>>, NoMemory>
+fn needs_of(
+    alloc: Global,
+    means: Meaning,
+    takes: &[Ty],
+) -> Result<Option<Items<Option<Ty>>>, NoMemory>
     ensures { IfOk result (λ ts. option_map wants_of ts ≡ names.takes (meaning_of means (map ty_of takes.now))) }
 {
     match means {
@@ -160,7 +164,7 @@ impl Scope {
         ensures { IfOk result (λ c. option_map called_of c ≡ names.called (scope_of self.now) name.now) }
     {
         match self.globals.find(name) {
-            Some(global) => match takes(alloc, global.means, global.takes.as_slice())? {
+            Some(global) => match needs_of(alloc, global.means, global.takes.as_slice())? {
                 Some(needs) => Ok(Some(Called {
                     means: global.means,
                     takes: Items::from_slice(alloc, global.takes.as_slice())?,
@@ -175,8 +179,8 @@ impl Scope {
     /// One more local.
     pub fn bind(&mut self, alloc: Global, name: &Text, ty: Ty) -> Result<(), NoMemory>
         ensures bound { OnOk result (scope_of self.new ≡ names.inside (scope_of self.old) name.now (ty_of ty)) }
-        ensures ok { OnOk result (self.new ≡ record self.old { locals = self.old.locals ++ record { name = name.now; ty = ty } ∷ [] }) }
-        ensures err { OnErr result (self.new ≡ self.old) }
+        ensures added { OnOk result (self.new ≡ record self.old { locals = self.old.locals ++ record { name = name.now; ty = ty } ∷ [] }) }
+        ensures unchanged { OnErr result (self.new ≡ self.old) }
     {
         let name = name.copy(alloc)?;
         self.locals.push(FieldDef { name, ty })?;

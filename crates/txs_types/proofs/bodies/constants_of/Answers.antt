@@ -1,5 +1,7 @@
 use Rattle.std.proofs.Common.{refl}
-use Rattle.txs_types.proofs.FileBodies.{constants_start, constants_step, constants_end}
+use Rattle.txs_types.specs.Among.{InConstant}
+use Rattle.txs_types.specs.Collected.{ConstantsMeant}
+use Rattle.txs_types.proofs.FileBodies.{constants_start, constants_step, found_end}
 use Rattle.txs_types.proofs.bodies.constants_of.Goals as goal
 
 pub constant_in-judged-requires : goal.constant_in-judged-requires
@@ -18,6 +20,7 @@ loop-def-preserved c = record {
 
 pub returns : goal.returns
 returns c = record {
-  found = constants_end c.args.file.now c.as_slice-def-items.result.now c.loop-def.def-index c.loop-def.constants c.loop-def-test.false c.as_slice-def-items.ensures c.loop-def.invariant.found;
+  found =
+      found_end (ConstantsMeant c.args.file.now) (InConstant c.args.file.now) c.as_slice-def-items.result.now c.args.file.now.defs c.loop-def.def-index c.loop-def.constants c.loop-def-test.false c.as_slice-def-items.ensures c.loop-def.invariant.found;
   scope = c.loop-def.invariant.scope;
 }

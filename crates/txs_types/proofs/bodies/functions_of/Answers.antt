@@ -1,5 +1,7 @@
 use Rattle.std.proofs.Common.{refl}
-use Rattle.txs_types.proofs.FileBodies.{functions_start, functions_step, functions_end}
+use Rattle.txs_types.specs.Among.{InFunction}
+use Rattle.txs_types.specs.Collected.{FunctionsMeant}
+use Rattle.txs_types.proofs.FileBodies.{functions_start, functions_step, found_end}
 use Rattle.txs_types.proofs.bodies.functions_of.Goals as goal
 
 pub function_in-judged-requires : goal.function_in-judged-requires
@@ -18,6 +20,7 @@ loop-def-preserved c = record {
 
 pub returns : goal.returns
 returns c = record {
-  found = functions_end c.args.file.now c.as_slice-def-items.result.now c.loop-def.def-index c.loop-def.functions c.loop-def-test.false c.as_slice-def-items.ensures c.loop-def.invariant.found;
+  found =
+      found_end (FunctionsMeant c.args.file.now) (InFunction c.args.file.now) c.as_slice-def-items.result.now c.args.file.now.defs c.loop-def.def-index c.loop-def.functions c.loop-def-test.false c.as_slice-def-items.ensures c.loop-def.invariant.found;
   scope = c.loop-def.invariant.scope;
 }

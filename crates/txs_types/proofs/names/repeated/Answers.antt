@@ -1,9 +1,10 @@
-use Rattle.std.proofs.Common.{◌≡◌, MatchBool, take, sym, subst}
+use Rattle.std.proofs.Common.{◌≡◌, MatchBool, Some, None, take, sym, subst}
 use Rattle.std.specs.BTreeSet.{contains_text}
 use Rattle.std.proofs.lemmas.List.{take_all}
 use Rattle.txs_types.specs.declared.fault.TypeFault.TheVariants as fault
-use Rattle.txs_types.specs.Told.{Added, Finds}
-use Rattle.txs_types.proofs.NameLaws.{RepeatsAmong, repeats_next, passed_is, seen_put}
+use Rattle.txs_types.specs.Told.{Finds}
+use Rattle.txs_types.specs.Among.{IsTwice}
+use Rattle.txs_types.proofs.NameLaws.{repeats_next, passed_is, seen_put}
 use Rattle.txs_types.proofs.names.repeated.Goals as goal
 
 pub loop-name-preserved : goal.loop-name-preserved
@@ -12,12 +13,13 @@ loop-name-preserved c =
     let names = c.args.names.now in
     let i = c.loop-name.name-index in
     let n = c.name-item.result in
-    let r = c.with_repeated-told.result in
+    let g = c.repeated_name.result in
+    let r = c.least-fault.result in
     record {
       told =
-          subst (λ ns. Finds r (RepeatsAmong before ns)) (sym (passed_is names i n c.loop-name-test.true c.name-item.is))
-          (repeats_next before (take i names) n c.loop-name.told r c.loop-name.invariant.told
-          (subst (λ b. MatchBool b (Added c.loop-name.told (fault.Twice n.at) r) (r ≡ c.loop-name.told)) (c.loop-name.invariant.seen n.text) c.with_repeated-told.ensures));
+          subst (λ ns. Finds r (IsTwice before ns)) (sym (passed_is names i n c.loop-name-test.true c.name-item.is))
+          (repeats_next before (take i names) n c.loop-name.fault g r c.loop-name.invariant.told
+          (subst (λ b. MatchBool b (g ≡ Some (fault.Twice n.at)) (g ≡ None)) (c.loop-name.invariant.seen n.text) c.repeated_name.ensures) c.least-fault.ensures);
       seen = λ x.
           seen_put x before names i n (contains_text c.loop-name.seen x) (contains_text c.add_text.new.seen x)
           c.loop-name-test.true c.name-item.is (c.in_ok-add_text.ensures x) (c.loop-name.invariant.seen x);
@@ -25,4 +27,4 @@ loop-name-preserved c =
 
 pub returns : goal.returns
 returns c =
-    subst (λ ns. Finds c.loop-name.told (RepeatsAmong c.args.before.now ns)) (take_all c.loop-name.name-index c.args.names.now c.loop-name-test.false) c.loop-name.invariant.told
+    subst (λ ns. Finds c.loop-name.fault (IsTwice c.args.before.now ns)) (take_all c.loop-name.name-index c.args.names.now c.loop-name-test.false) c.loop-name.invariant.told

@@ -2,11 +2,12 @@ use Rattle.std.proofs.Common.{◌≡◌, ℕ, List, take}
 use Rattle.std.specs.BTreeSet.{contains_text}
 use Rattle.txs_types.specs.Files.{is_among}
 use Rattle.txs_types.specs.Told.{Finds}
-use Rattle.txs_types.proofs.NameLaws.{RepeatsAmong, seen}
+use Rattle.txs_types.specs.Among.{IsTwice}
+use Rattle.txs_types.proofs.NameLaws.{seen}
 use Rattle.txs_types.proofs.names.repeated.Given as goal
 
 abbrev pub invariant-loop-name : goal.invariant-loop-name
 invariant-loop-name l = record {
-  told : Finds l.told (RepeatsAmong l.before (take l.name-index l.names));
+  told : Finds l.fault (IsTwice l.before (take l.name-index l.names));
   seen : (x : List ℕ) → contains_text l.seen x ≡ is_among x (seen l.before (take l.name-index l.names));
 }

@@ -2,7 +2,7 @@ use Rattle.std.proofs.Common.{ap, subst, ◌∙◌}
 use Rattle.txs_terms.specs.View.{definitions_of}
 use Rattle.txs_types.specs.Files.{names_of}
 use Rattle.txs_types.specs.Told.{Finds}
-use Rattle.txs_types.specs.Queries.{DeclarationOffends}
+use Rattle.txs_types.specs.Queries.{InDeclarations}
 use Rattle.txs_types.specs.View.{want_of, Judges}
 use Rattle.txs_types.proofs.QueryLaws.{query_clean, query_told, query_typed, query_safe}
 use Rattle.txs_types.proofs.query.type_query.Goals as goal
@@ -16,7 +16,7 @@ returns-clause-clean c =
     let told = c.in_ok-declared.declared in
     let typed = c.expression.result in
     let named = c.as_slice-2.ensures ∙ (c.in_ok-types.ensures ∙ ap names_of (c.as_slice.ensures.defs ∙ c.table.ensures.table)) in
-    let found = subst (λ ns. Finds told (DeclarationOffends ns list)) named c.in_ok-declared.ensures in
+    let found = subst (λ ns. Finds told (InDeclarations ns list)) named c.in_ok-declared.ensures in
     let judged = subst (λ s. Judges s want a typed) c.in_ok-scope.ensures c.expression.ensures.judged in
     query_clean d list want a told typed c.decided.result found judged c.decided.ensures
 
@@ -29,7 +29,7 @@ returns-clause-typed c =
     let told = c.in_ok-declared.declared in
     let typed = c.expression.result in
     let named = c.as_slice-2.ensures ∙ (c.in_ok-types.ensures ∙ ap names_of (c.as_slice.ensures.defs ∙ c.table.ensures.table)) in
-    let found = subst (λ ns. Finds told (DeclarationOffends ns list)) named c.in_ok-declared.ensures in
+    let found = subst (λ ns. Finds told (InDeclarations ns list)) named c.in_ok-declared.ensures in
     let judged = subst (λ s. Judges s want a typed) c.in_ok-scope.ensures c.expression.ensures.judged in
     query_typed d list want a told typed c.decided.result c.table.ensures.defined c.requires.need found judged c.decided.ensures
 
@@ -42,7 +42,7 @@ returns-clause-safe c =
     let told = c.in_ok-declared.declared in
     let typed = c.expression.result in
     let named = c.as_slice-2.ensures ∙ (c.in_ok-types.ensures ∙ ap names_of (c.as_slice.ensures.defs ∙ c.table.ensures.table)) in
-    let found = subst (λ ns. Finds told (DeclarationOffends ns list)) named c.in_ok-declared.ensures in
+    let found = subst (λ ns. Finds told (InDeclarations ns list)) named c.in_ok-declared.ensures in
     let judged = subst (λ s. Judges s want a typed) c.in_ok-scope.ensures c.expression.ensures.judged in
     query_safe d list want a c.decided.result c.table.ensures.defined
     (query_typed d list want a told typed c.decided.result c.table.ensures.defined c.requires.need found judged c.decided.ensures)
@@ -56,6 +56,6 @@ returns-clause-offends c =
     let told = c.in_ok-declared.declared in
     let typed = c.expression.result in
     let named = c.as_slice-2.ensures ∙ (c.in_ok-types.ensures ∙ ap names_of (c.as_slice.ensures.defs ∙ c.table.ensures.table)) in
-    let found = subst (λ ns. Finds told (DeclarationOffends ns list)) named c.in_ok-declared.ensures in
+    let found = subst (λ ns. Finds told (InDeclarations ns list)) named c.in_ok-declared.ensures in
     let judged = subst (λ s. Judges s want a typed) c.in_ok-scope.ensures c.expression.ensures.judged in
     query_told d list want a told typed c.decided.result found judged c.decided.ensures

@@ -1,6 +1,6 @@
 use Rattle.std.proofs.Common.{sym, ◌∙◌}
 use Rattle.txs_types.proofs.Offending.{undefined_stands, undefined_none}
-use Rattle.txs_types.proofs.offences.undefined_name.Goals as goal
+use Rattle.txs_types.proofs.declarations.undefined_name.Goals as goal
 
 pub returns-then-is_undefined : goal.returns-then-is_undefined
 returns-then-is_undefined c = undefined_stands c.args.types.now c.args.name.now (sym c.is_undefined.ensures ∙ c.if-is_undefined.true)

@@ -3,7 +3,7 @@ use Rattle.txs_values.specs.View.{ty_of}
 use Rattle.txs_types.specs.View.{scope_of, want_of, called_of}
 use Rattle.txs_types.specs.Parts.{CallsWith}
 use Rattle.txs_types.proofs.CallNodes.{calls_whole}
-use Rattle.txs_types.proofs.leaf.called_with.Goals as goal
+use Rattle.txs_types.proofs.call.called_with.Goals as goal
 
 pub returns-in-Some : goal.returns-in-Some
 returns-in-Some c =
