@@ -1,9 +1,9 @@
 -- A loop that gathers what each item of a list gives, and one that seeks an item.
-use Rattle.std.proofs.Common.{◌≡◌, ◌+◌, ◌<◌, ◌≤◌, ℕ, Bool, true, false, ◌||◌, ap, sym, ◌∙◌, List, [], ◌∷◌, ◌++◌, length, map, drop, get_or, refl}
+use Rattle.std.proofs.Common.{◌≡◌, ◌+◌, ◌<◌, ◌≤◌, ℕ, Bool, true, false, ◌||◌, ap, sym, ◌∙◌, List, [], ◌∷◌, ◌++◌, length, map, drop, get_or}
 use Rattle.std.proofs.lemmas.List.{append_assoc, append-nil, map-append, at_drop_more, at_drop_all}
 
 -- the list that is left begins with the item
-left_over : {A B : Type 0} (F : List A → B) (xs : List A) (i : ℕ) (x : A) → i < length xs → x ≡ get_or xs i x → F (drop i xs) ≡ F (x ∷ drop (i + 1) xs)
+pub left_over : {A B : Type 0} (F : List A → B) (xs : List A) (i : ℕ) (x : A) → i < length xs → x ≡ get_or xs i x → F (drop i xs) ≡ F (x ∷ drop (i + 1) xs)
 left_over F xs i x below is = at_drop_more F xs i x below ∙ ap (λ y. F (y ∷ drop (i + 1) xs)) (sym is)
 
 pub gather_more : {A B : Type 0} (F : List A → List B) → ((d : A) (ds : List A) → F (d ∷ ds) ≡ F (d ∷ []) ++ F ds)
@@ -34,10 +34,6 @@ seek_found F G split xs i x below is h hit =
 
 pub seek_end : {A : Type 0} (F : List A → Bool) (xs : List A) (i : ℕ) → F [] ≡ false → length xs ≤ i → F (drop i xs) ≡ F xs → false ≡ F xs
 seek_end F xs i nil past h = sym (at_drop_all F xs i past ∙ nil) ∙ h
-
-pub or_no : (b : Bool) → (b || false) ≡ b
-or_no true = refl
-or_no false = refl
 
 -- with a state that each item moves on
 pub gather_on : {A B S : Type 0} (F : S → List A → List B) (G : S → A → List B) (next : S → A → S) → ((s : S) (d : A) (ds : List A) → F s (d ∷ ds) ≡ G s d ++ F (next s d) ds)

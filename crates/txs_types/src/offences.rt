@@ -3,13 +3,13 @@ ghost use Rattle.txs_types.specs.Files as files;
 ghost use Rattle.txs_types.specs.Told.{Finds};
 ghost use Rattle.txs_types.specs.Among.{Among, AmongDefs, IsTwice, AnyUndefined, TwiceIn, UnknownIn, BadDefault};
 
-use crate::declarations::{names_in, undefined};
+use crate::declarations::{is_undefined, names_in, undefined};
 use crate::definitions::defined_names;
 use crate::fault::TypeFault;
-use crate::file_names::{built_ins, number_after, texts_of};
-use crate::file_types::is_undefined;
+use crate::global_names::{built_ins, texts_of};
 use crate::least::least;
 use crate::names::repeated;
+use crate::numbers::number_of;
 use sqlite_items::Items;
 use std::alloc::Global;
 use txs_syntax::{ConDef, Decl, DeclList, Def, Name};
@@ -161,10 +161,9 @@ pub fn bad_type(
     ensures { IfOk result (λ f. Finds f (Among (BadDefault table.now) types.now)) }
 {
     let mut fault = None;
-    let mut number: u32 = 0;
-    for name in types {
+    for (place, name) in types.iter().enumerate() {
+        let number = number_of(place)?;
         fault = least(fault, bad_default(alloc, table, number, name)?);
-        number = number_after(number)?;
     }
     Ok(fault)
 }

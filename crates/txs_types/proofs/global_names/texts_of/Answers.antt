@@ -2,7 +2,7 @@ use Rattle.std.proofs.Common.{refl, map, ap, ◌∷◌, [], List}
 use Rattle.txs_types.specs.declared.meaning.GlobalName.{GlobalName}
 use Rattle.txs_types.specs.View.{globals_of}
 use Rattle.txs_types.proofs.Gathering.{gather_more, gather_end}
-use Rattle.txs_types.proofs.file_names.texts_of.Goals as goal
+use Rattle.txs_types.proofs.global_names.texts_of.Goals as goal
 
 pub loop-global-preserved : goal.loop-global-preserved
 loop-global-preserved c =
