@@ -142,6 +142,7 @@ fn add_definition(
 }
 
 /// Puts the names that a file's definitions define behind the others, in order, where the file defines types of these names.
+#[tactic(auto, using(crate::proofs::Collecting::split_globals))]
 pub fn add_definitions(
     alloc: Global,
     list: &mut Items<GlobalName>,
