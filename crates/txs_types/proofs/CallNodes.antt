@@ -23,7 +23,7 @@ use Rattle.txs_types.specs.Answer.{offence_of, Told}
 use Rattle.txs_types.specs.View.{want_of, wants_of, Judges, JudgesAt}
 use Rattle.txs_types.specs.Parts.{Typed, Whole, Gathers, Argues, HaveInts, JudgesEach, call_type, Applies, CallsWith, stray_needs, Strays, StraysWith}
 use Rattle.txs_types.proofs.Unique.{some_injective}
-use Rattle.txs_types.proofs.NotBoth.{none≢some, not_both}
+use Rattle.txs_types.proofs.NotBoth.{none≢some, not_both, as_many}
 use Rattle.txs_types.proofs.Judged.{as_many_exprs}
 use Rattle.txs_types.proofs.Trees.{fold_call}
 use Rattle.txs_types.proofs.Inside.{Inside, i_call, i_number, i_nowhere, i_argument, i_stray, split, at_none}
@@ -130,10 +130,6 @@ each_more scope needs args n a (Err f) (Err k) (Err m) l h j g =
     told_same m (λ o. Argues scope needs args o ⊎ Offends scope n a o) (Argues scope (needs ++ n ∷ []) (args ++ a ∷ []))
     (λ o w. snoc_argues scope needs args n a o l w) (λ o w. argues_snoc scope needs args n a o l w)
     (told_either f k m (Argues scope needs args) (Offends scope n a) h j g)
-
-as_many : {scope : Scope} {needs : List (Option Ty)} {args : List Ast} {es : List Expr} → ElaboratesEach scope needs args es → length args ≡ length needs
-as_many nothing = refl
-as_many (one_more d ds) = ap suc (as_many ds)
 
 -- ---- the node
 

@@ -1,13 +1,12 @@
 -- What a list of definitions gives is what its first gives, and what the others do.
-use Rattle.std.proofs.Common.{◌≡◌, ℕ, suc, Bool, true, false, ◌||◌, ap, sym, ◌∙◌, List, [], ◌∷◌, ◌++◌, refl}
+use Rattle.std.proofs.Common.{◌≡◌, Bool, true, false, ◌||◌, ap, sym, ◌∙◌, List, [], ◌∷◌, ◌++◌, refl}
 use Rattle.std.proofs.lemmas.List.{append_assoc, append-nil}
-use Rattle.txs_values.specs.Value.{Constructor, field_types}
 use Rattle.txs_syntax.specs.declared.ast.Name.{Name}
 use Rattle.txs_syntax.specs.declared.file.Def.{Def}
 use Rattle.txs_syntax.specs.declared.file.Def.TheVariants as def
 use Rattle.txs_syntax.specs.declared.file.ConDef.{ConDef}
 use Rattle.txs_types.specs.declared.file_names.Counts.{Counts}
-use Rattle.txs_types.specs.Names.{constructor_globals, selectors, test_name, named_constructor, named_test}
+use Rattle.txs_types.specs.Names.{constructor_globals, test_name}
 use Rattle.txs_types.specs.Files.{type_names, names_in, constructor_names, defined_names, table_in, excused, types_used, types_of_fields, is_undefined, any_undefined, constructors_of}
 use Rattle.txs_types.specs.Counted.{counts_after, globals_from}
 
@@ -58,8 +57,3 @@ pub split_globals : (types : List Name) (c : Counts) (d : Def) (ds : List Def) �
 split_globals types c (def.TypeDef x cs) ds = behind_nothing (constructor_globals c.types c.constructors (constructors_of types cs)) (globals_from types (counts_after c (def.TypeDef x cs)) ds)
 split_globals types c (def.FuncDef x ps r e) ds = refl
 split_globals types c (def.ConstDef x t e) ds = refl
-
-pub split_constructors : (k c : ℕ) (x : Constructor) (xs : List Constructor) → constructor_globals k c (x ∷ xs) ≡ constructor_globals k c (x ∷ []) ++ constructor_globals k (suc c) xs
-split_constructors k c x xs =
-    ap (λ l. record { name = x.name; means = named_constructor c k (field_types x.fields) } ∷ record { name = test_name x.name; means = named_test c k } ∷ l)
-    (behind_nothing (selectors c k 0 x.fields) (constructor_globals k (suc c) xs))

@@ -15,11 +15,9 @@ use Rattle.txs_terms.specs.declared.expr.Expr as rust
 use Rattle.txs_terms.specs.declared.expr.Expr.TheVariants as form
 use Rattle.txs_terms.specs.declared.expr.Expr.TheOpen.{Expr-F}
 use Rattle.txs_terms.specs.declared.expr.Expr.TheFolds.{fold-roll-Expr}
-use Rattle.txs_terms.specs.Expr.{Expr, val, one, two, apply, build}
-use Rattle.txs_terms.specs.View.{unary_of, binary_of, expr_of, exprs_of, expr_step, gathered}
-
-pub seen_value : (v : rust_value.Value) → expr_of (form.Value v) ≡ val (value_of v)
-seen_value v = ap expr_of (sym (form.rolls-Value v)) ∙ fold-roll-Expr Expr expr_step (Expr-F.Value v)
+use Rattle.txs_terms.specs.Expr.{Expr, val, one, two}
+use Rattle.txs_terms.specs.View.{unary_of, binary_of, expr_of, expr_step}
+use Rattle.txs_terms.proofs.Views.{at_value}
 
 pub seen_one : (o : rust_unary.Unary) (a : rust.Expr) → expr_of (form.One o a) ≡ one (unary_of o) (expr_of a)
 seen_one o a = ap expr_of (sym (form.rolls-One o a)) ∙ fold-roll-Expr Expr expr_step (Expr-F.One o a)
@@ -27,23 +25,17 @@ seen_one o a = ap expr_of (sym (form.rolls-One o a)) ∙ fold-roll-Expr Expr exp
 pub seen_two : (o : rust_binary.Binary) (a b : rust.Expr) → expr_of (form.Two o a b) ≡ two (binary_of o) (expr_of a) (expr_of b)
 seen_two o a b = ap expr_of (sym (form.rolls-Two o a b)) ∙ fold-roll-Expr Expr expr_step (Expr-F.Two o a b)
 
-pub seen_call : (f : ℕ) (es : List rust.Expr) → expr_of (form.Call f es) ≡ apply f (gathered (exprs_of es))
-seen_call f es = ap expr_of (sym (form.rolls-Call f es)) ∙ fold-roll-Expr Expr expr_step (Expr-F.Call f es)
-
-pub seen_build : (c : ℕ) (es : List rust.Expr) → expr_of (form.Build c es) ≡ build c (gathered (exprs_of es))
-seen_build c es = ap expr_of (sym (form.rolls-Build c es)) ∙ fold-roll-Expr Expr expr_step (Expr-F.Build c es)
-
 -- a constructor without fields
 pub seen_constructor : (c : ℕ) (vs : List rust_value.Value) → vs ≡ [] → expr_of (form.Value (value.Cons c vs)) ≡ val (cons c no_value)
 seen_constructor c vs h =
-    seen_value (value.Cons c vs)
+    at_value (value.Cons c vs)
     ∙ ap val (ap (λ l. value_of (value.Cons c l)) h ∙ (ap value_of (sym (value.rolls-Cons c [])) ∙ fold-roll-Value Value value_step (Value-F.Cons c [])))
 
 pub seen_int : (n : ℤ) → expr_of (form.Value (value.Int n)) ≡ val (num n)
-seen_int n = seen_value (value.Int n) ∙ ap val (ap value_of (sym (value.rolls-Int n)) ∙ fold-roll-Value Value value_step (Value-F.Int n))
+seen_int n = at_value (value.Int n) ∙ ap val (ap value_of (sym (value.rolls-Int n)) ∙ fold-roll-Value Value value_step (Value-F.Int n))
 
 pub seen_text : (s : List ℕ) → expr_of (form.Value (value.Text s)) ≡ val (text s)
-seen_text s = seen_value (value.Text s) ∙ ap val (ap value_of (sym (value.rolls-Text s)) ∙ fold-roll-Value Value value_step (Value-F.Text s))
+seen_text s = at_value (value.Text s) ∙ ap val (ap value_of (sym (value.rolls-Text s)) ∙ fold-roll-Value Value value_step (Value-F.Text s))
 
 -- a number of the program is in the range of Int
 pub fits_true : (z : ℤ) → FitsSigned w128 z → fits z ≡ true

@@ -1,9 +1,9 @@
 -- A loop that gathers what each item of a list gives, and one that seeks an item.
-use Rattle.std.proofs.Common.{◌≡◌, ◌+◌, ◌<◌, ◌≤◌, ℕ, Bool, true, false, ◌||◌, ap, sym, ◌∙◌, List, [], ◌∷◌, ◌++◌, length, map, drop, get_or, refl}
-use Rattle.std.proofs.lemmas.List.{append_assoc, append-nil, map-append, at_drop_more, at_drop_all}
+use Rattle.std.proofs.Common.{◌≡◌, ◌+◌, ◌<◌, ◌≤◌, ℕ, Bool, true, false, ◌||◌, ap, sym, ◌∙◌, List, [], ◌∷◌, ◌++◌, length, drop, get_or}
+use Rattle.std.proofs.lemmas.List.{append_assoc, append-nil, at_drop_more, at_drop_all}
 
 -- the list that is left begins with the item
-left_over : {A B : Type 0} (F : List A → B) (xs : List A) (i : ℕ) (x : A) → i < length xs → x ≡ get_or xs i x → F (drop i xs) ≡ F (x ∷ drop (i + 1) xs)
+pub left_over : {A B : Type 0} (F : List A → B) (xs : List A) (i : ℕ) (x : A) → i < length xs → x ≡ get_or xs i x → F (drop i xs) ≡ F (x ∷ drop (i + 1) xs)
 left_over F xs i x below is = at_drop_more F xs i x below ∙ ap (λ y. F (y ∷ drop (i + 1) xs)) (sym is)
 
 pub gather_more : {A B : Type 0} (F : List A → List B) → ((d : A) (ds : List A) → F (d ∷ ds) ≡ F (d ∷ []) ++ F ds)
@@ -18,10 +18,6 @@ gather_more F split xs i x got more new below is h m n =
 pub gather_end : {A B : Type 0} (F : List A → List B) (xs : List A) (i : ℕ) (got : List B) → F [] ≡ [] → length xs ≤ i → got ++ F (drop i xs) ≡ F xs → got ≡ F xs
 gather_end F xs i got nil past h = sym (append-nil got) ∙ (ap (λ l. got ++ l) (sym (at_drop_all F xs i past ∙ nil)) ∙ h)
 
--- seen as something else
-pub seen_append : {A B : Type 0} (see : A → B) (new got more : List A) (seen : List B) → new ≡ got ++ more → map see more ≡ seen → map see new ≡ map see got ++ seen
-seen_append see new got more seen n m = ap (map see) n ∙ (map-append see got more ∙ ap (λ l. map see got ++ l) m)
-
 pub seek_more : {A : Type 0} (F : List A → Bool) (G : A → Bool) → ((d : A) (ds : List A) → F (d ∷ ds) ≡ (G d || F ds))
     → (xs : List A) (i : ℕ) (x : A) → i < length xs → x ≡ get_or xs i x → F (drop i xs) ≡ F xs → G x ≡ false → F (drop (i + 1) xs) ≡ F xs
 seek_more F G split xs i x below is h out =
@@ -34,22 +30,3 @@ seek_found F G split xs i x below is h hit =
 
 pub seek_end : {A : Type 0} (F : List A → Bool) (xs : List A) (i : ℕ) → F [] ≡ false → length xs ≤ i → F (drop i xs) ≡ F xs → false ≡ F xs
 seek_end F xs i nil past h = sym (at_drop_all F xs i past ∙ nil) ∙ h
-
-pub or_no : (b : Bool) → (b || false) ≡ b
-or_no true = refl
-or_no false = refl
-
--- with a state that each item moves on
-pub gather_on : {A B S : Type 0} (F : S → List A → List B) (G : S → A → List B) (next : S → A → S) → ((s : S) (d : A) (ds : List A) → F s (d ∷ ds) ≡ G s d ++ F (next s d) ds)
-    → (xs : List A) (i : ℕ) (x : A) (s t : S) (got more new whole : List B) → i < length xs → x ≡ get_or xs i x → t ≡ next s x
-    → got ++ F s (drop i xs) ≡ whole → more ≡ G s x → new ≡ got ++ more → new ++ F t (drop (i + 1) xs) ≡ whole
-gather_on F G next split xs i x s t got more new whole below is n h m e =
-    ap (λ l. l ++ F t (drop (i + 1) xs)) e
-    ∙ (append_assoc got more (F t (drop (i + 1) xs))
-    ∙ (ap (λ l. got ++ l)
-    (ap (λ k. k ++ F t (drop (i + 1) xs)) m
-    ∙ (ap (λ s'. G s x ++ F s' (drop (i + 1) xs)) n ∙ (sym (split s x (drop (i + 1) xs)) ∙ sym (left_over (F s) xs i x below is))))
-    ∙ h))
-
-pub gather_on_end : {A B S : Type 0} (F : S → List A → List B) (xs : List A) (i : ℕ) (s : S) (got whole : List B) → F s [] ≡ [] → length xs ≤ i → got ++ F s (drop i xs) ≡ whole → got ≡ whole
-gather_on_end F xs i s got whole nil past h = sym (append-nil got) ∙ (ap (λ l. got ++ l) (sym (at_drop_all (F s) xs i past ∙ nil)) ∙ h)

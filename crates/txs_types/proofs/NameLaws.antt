@@ -1,8 +1,8 @@
 -- Loops over names: the number of a type, names without a definition, names that stand before already.
 use Rattle.std.proofs.Common.{◌≡◌, ◌⊎◌, ◌<◌, ◌+◌, ℕ, zero, suc, Bool, true, false, ◌||◌, cond, bytes_eq, refl, sym, ap, subst, ◌∙◌, inl, inr, List, [], ◌∷◌, ◌++◌, length, map, take, drop, get_or, Option, Some, None, MatchBool, add-one, true≢false, arith}
-use Rattle.std.proofs.Math.Seq.{drop-cons, drop-length}
 use Rattle.std.proofs.lemmas.List.{take_more, map-append}
-use Rattle.std.proofs.lemmas.Slice.Eq.{bytes_eq-Decides}
+use Rattle.txs_types.proofs.Tests.{same_text, other_text}
+use Rattle.txs_types.proofs.Gathering.{left_over}
 use Rattle.txs_syntax.specs.declared.ast.Name.{Name}
 use Rattle.txs_syntax.specs.declared.file.Decl.{Decl}
 use Rattle.txs_types.specs.declared.fault.TypeFault.{TypeFault}
@@ -15,36 +15,22 @@ use Rattle.txs_types.proofs.ToldLaws.{Either, finds_same, finds_least}
 
 -- ---- the item at hand
 
--- the rest of a list begins with the item at hand
-pub rest_is : {A : Type 0} (xs : List A) (i : ℕ) (x : A) → i < length xs → x ≡ get_or xs i x → drop i xs ≡ x ∷ drop (i + 1) xs
-rest_is xs i x h e = drop-cons xs i x h ∙ (ap (λ y. y ∷ drop (suc i) xs) (sym e) ∙ ap (λ k. x ∷ drop k xs) (sym (add-one i)))
-
--- and what was passed ends with it
+-- what was passed ends with the item at hand
 pub passed_is : {A : Type 0} (xs : List A) (i : ℕ) (x : A) → i < length xs → x ≡ get_or xs i x → take (i + 1) xs ≡ take i xs ++ x ∷ []
 passed_is xs i x h e = take_more xs i x h ∙ ap (λ y. take i xs ++ y ∷ []) (sym e)
-
-pub same_text : (x y : List ℕ) → x ≡ y → bytes_eq x y ≡ true
-same_text x y e = (bytes_eq-Decides x y).1 e
-
-not_true : (b : Bool) → (b ≡ true → ⊥) → b ≡ false
-not_true true h = absurd (h refl)
-not_true false h = refl
-
-pub other_text : (x y : List ℕ) → (x ≡ y → ⊥) → bytes_eq x y ≡ false
-other_text x y h = not_true (bytes_eq x y) (λ e. h ((bytes_eq-Decides x y).0 e))
 
 -- ---- the number of a type
 
 pub number_found : (x : List ℕ) (types : List Name) (i : ℕ) (n : Name) → i < length types → n ≡ get_or types i n → n.text ≡ x
     → type_number x i (drop i types) ≡ i
 number_found x types i n h e same =
-    ap (type_number x i) (rest_is types i n h e) ∙ ap (λ b. cond b i (type_number x (suc i) (drop (i + 1) types))) (same_text n.text x same)
+    left_over (type_number x i) types i n h e ∙ ap (λ b. cond b i (type_number x (suc i) (drop (i + 1) types))) (same_text n.text x same)
 
 pub number_passed : (x : List ℕ) (types : List Name) (i : ℕ) (n : Name) → i < length types → n ≡ get_or types i n → (n.text ≡ x → ⊥)
     → type_number x (i + 1) (drop (i + 1) types) ≡ type_number x i (drop i types)
 number_passed x types i n h e other =
     ap (λ k. type_number x k (drop (i + 1) types)) (add-one i)
-    ∙ sym (ap (type_number x i) (rest_is types i n h e) ∙ ap (λ b. cond b i (type_number x (suc i) (drop (i + 1) types))) (other_text n.text x other))
+    ∙ sym (left_over (type_number x i) types i n h e ∙ ap (λ b. cond b i (type_number x (suc i) (drop (i + 1) types))) (other_text n.text x (λ e. absurd (other e))))
 
 -- ---- one of the names is a text
 
@@ -54,12 +40,12 @@ texts ns = map (λ n. n.text) ns
 pub among_found : (x : List ℕ) (types : List Name) (i : ℕ) (n : Name) → i < length types → n ≡ get_or types i n → n.text ≡ x
     → is_among x (texts (drop i types)) ≡ true
 among_found x types i n h e same =
-    ap (λ ns. is_among x (texts ns)) (rest_is types i n h e) ∙ ap (λ b. b || is_among x (texts (drop (i + 1) types))) (same_text n.text x same)
+    left_over (λ ns. is_among x (texts ns)) types i n h e ∙ ap (λ b. b || is_among x (texts (drop (i + 1) types))) (same_text n.text x same)
 
 pub among_passed : (x : List ℕ) (types : List Name) (i : ℕ) (n : Name) → i < length types → n ≡ get_or types i n → (n.text ≡ x → ⊥)
     → is_among x (texts (drop (i + 1) types)) ≡ is_among x (texts (drop i types))
 among_passed x types i n h e other =
-    sym (ap (λ ns. is_among x (texts ns)) (rest_is types i n h e) ∙ ap (λ b. b || is_among x (texts (drop (i + 1) types))) (other_text n.text x other))
+    sym (left_over (λ ns. is_among x (texts ns)) types i n h e ∙ ap (λ b. b || is_among x (texts (drop (i + 1) types))) (other_text n.text x (λ e. absurd (other e))))
 
 -- ---- names without a definition
 
@@ -131,19 +117,12 @@ or_same : (b s : Bool) → (b || s) ≡ cond b true s
 or_same true s = refl
 or_same false s = refl
 
-or_false : (b : Bool) → (b || false) ≡ b
-or_false true = refl
-or_false false = refl
-
 -- a set of texts, of which one more is put in
 pub put_next : (x : List ℕ) (texts : List (List ℕ)) (i : ℕ) (t : List ℕ) (old new all : Bool) → i < length texts → t ≡ get_or texts i t
     → new ≡ cond (bytes_eq t x) true old → (old || is_among x (drop i texts)) ≡ all → (new || is_among x (drop (i + 1) texts)) ≡ all
 put_next x texts i t old new all h e n p =
     ap (λ b. b || is_among x (drop (i + 1) texts)) n
-    ∙ (or_put (bytes_eq t x) old (is_among x (drop (i + 1) texts)) ∙ (sym (ap (λ ts. old || is_among x ts) (rest_is texts i t h e)) ∙ p))
-
-pub all_put : (x : List ℕ) (texts : List (List ℕ)) (made all : Bool) → (made || is_among x (drop (length texts) texts)) ≡ all → made ≡ all
-all_put x texts made all h = sym (or_false made) ∙ (sym (ap (λ ts. made || is_among x ts) (drop-length texts)) ∙ h)
+    ∙ (or_put (bytes_eq t x) old (is_among x (drop (i + 1) texts)) ∙ (sym (left_over (λ ts. old || is_among x ts) texts i t h e) ∙ p))
 
 -- the text of the name at hand is put among those that stand before
 pub seen_put : (x : List ℕ) (xs : List (List ℕ)) (ns : List Name) (i : ℕ) (n : Name) (old new : Bool) → i < length ns → n ≡ get_or ns i n

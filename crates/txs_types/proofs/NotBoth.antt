@@ -178,7 +178,7 @@ no_name h (f_name x k) = none≢some (sym k ∙ h)
 not_made_alone : {es : List Expr} {e : Expr} {t : Ty} → Makes None named_from_string es e t → ⊥
 not_made_alone m = elim m [ ]
 
-as_many : {scope : Scope} {needs : List (Option Ty)} {args : List Ast} {es : List Expr} → ElaboratesEach scope needs args es → length args ≡ length needs
+pub as_many : {scope : Scope} {needs : List (Option Ty)} {args : List Ast} {es : List Expr} → ElaboratesEach scope needs args es → length args ≡ length needs
 as_many nothing = refl
 as_many (one_more d ds) = ap suc (as_many ds)
 

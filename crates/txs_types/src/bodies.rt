@@ -1,4 +1,4 @@
-ghost use Rattle.std.specs.Prelude.{◌≡◌, IfOk, OnOk, length};
+ghost use Rattle.std.specs.Prelude.{◌≡◌, IfOk, OnOk};
 ghost use Rattle.txs_syntax.specs.declared.file.Def.TheVariants as def;
 ghost use Rattle.txs_types.specs.Files as files;
 ghost use Rattle.txs_types.specs.Among.{IsOfFile};
@@ -7,9 +7,11 @@ ghost use Rattle.txs_types.specs.Collected.{FunctionIn, FunctionsFound, Constant
 use crate::declarations::{type_of, variables_of};
 use crate::expression::expression;
 use crate::fault::TypeFault;
-use crate::file_names::{built_ins, globals_in, types_of};
+use crate::file_names::add_definitions;
+use crate::global_names::{built_ins, types_of};
 use crate::least::least;
 use crate::meaning::GlobalNames;
+use crate::numbers::number_of;
 use crate::scope::Scope;
 use sqlite_items::Items;
 use std::alloc::Global;
@@ -181,24 +183,15 @@ pub fn constants_of(
     Ok(constants)
 }
 
-fn type_count(types: &[Name]) -> Result<u32, NoMemory>
-    ensures { IfOk result (λ n. n ≡ length types.now) }
-{
-    if types.len() > 4_294_967_295 {
-        return Err(NoMemory);
-    }
-    Ok(types.len() as u32)
-}
-
 /// The scope of the bodies, with no parameters.
 pub fn scope_of_file(alloc: Global, types: &[Name], file: &File) -> Result<Scope, NoMemory>
     requires { types.now ≡ files.type_names file.now.defs }
     ensures { IfOk result (λ s. IsOfFile file.now s) }
 {
     let mut list = built_ins(alloc)?;
-    list.append(globals_in(alloc, types, file.defs.as_slice())?)?;
+    add_definitions(alloc, &mut list, types, file.defs.as_slice())?;
     Ok(Scope {
-        types: type_count(types)?,
+        types: number_of(types.len())?,
         globals: GlobalNames { list },
         slots: Items::new(alloc),
         locals: Items::new(alloc),

@@ -7,7 +7,7 @@ ghost use Rattle.txs_types.specs.Among.{AnyUndefined};
 
 use crate::fault::TypeFault;
 use crate::least::least;
-use crate::table_names::number_of;
+use crate::numbers::number_of;
 use sqlite_items::Items;
 use std::alloc::Global;
 use txs_syntax::{DeclList, Name};
@@ -68,13 +68,22 @@ pub fn variables_of(alloc: Global, types: &[Name], list: &DeclList) -> Result<Fi
     Ok(variables)
 }
 
+/// The same name, at the same place.
+pub fn copy_name(alloc: Global, name: &Name) -> Result<Name, NoMemory>
+    ensures { IfOk result (λ n. n ≡ name.now) }
+{
+    Ok(Name {
+        at: name.at,
+        text: name.text.copy(alloc)?,
+    })
+}
+
 /// Puts names behind the others.
-pub fn add_names(alloc: Global, list: &mut Items<Name>, names: &[Name]) -> Result<(), NoMemory>
+fn add_names(alloc: Global, list: &mut Items<Name>, names: &[Name]) -> Result<(), NoMemory>
     ensures { OnOk result (list.new ≡ list.old ++ names.now) }
 {
     for name in names {
-        let text = name.text.copy(alloc)?;
-        list.push(Name { at: name.at, text })?;
+        list.push(copy_name(alloc, name)?)?;
     }
     Ok(())
 }

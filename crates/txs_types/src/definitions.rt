@@ -1,21 +1,12 @@
 ghost use Rattle.std.specs.Prelude.{◌≡◌, IfOk, [], ◌∷◌};
-ghost use Rattle.txs_types.specs.Names as names;
 ghost use Rattle.txs_types.specs.Files as files;
 
-use crate::declarations::names_in;
+use crate::declarations::{copy_name, names_in};
+use crate::global_names::test_name;
 use sqlite_items::Items;
 use std::alloc::Global;
 use txs_syntax::{ConDef, Def, Name};
-use txs_values::{NoMemory, Text};
-
-fn copy_name(alloc: Global, name: &Name) -> Result<Name, NoMemory>
-    ensures { IfOk result (λ n. n ≡ name.now) }
-{
-    Ok(Name {
-        at: name.at,
-        text: name.text.copy(alloc)?,
-    })
-}
+use txs_values::NoMemory;
 
 fn one_name(alloc: Global, name: &Name) -> Result<Items<Name>, NoMemory>
     ensures { IfOk result (λ ns. ns ≡ name.now ∷ []) }
@@ -43,15 +34,6 @@ pub fn type_names(alloc: Global, defs: &[Def]) -> Result<Items<Name>, NoMemory>
         names.append(type_name(alloc, def)?)?;
     }
     Ok(names)
-}
-
-/// The test of a constructor is called `is` and its name.
-pub fn test_name(alloc: Global, name: &Text) -> Result<Text, NoMemory>
-    ensures { IfOk result (λ t. t ≡ names.test_name name.now) }
-{
-    let mut text = String::from_str(alloc, "is")?;
-    text.push_str(name.as_str())?;
-    Ok(Text::from_string(text))
 }
 
 fn names_of_constructor(alloc: Global, con: &ConDef) -> Result<Items<Name>, NoMemory>

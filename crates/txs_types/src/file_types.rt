@@ -1,8 +1,8 @@
-ghost use Rattle.std.specs.Prelude.{◌≡◌, IfOk, OnOk, Bool, cond, [], ◌∷◌, ◌++◌, map};
+ghost use Rattle.std.specs.Prelude.{◌≡◌, IfOk, OnOk, cond, [], ◌∷◌, ◌++◌};
 ghost use Rattle.txs_values.specs.TableView.{cons_of, conses_of};
 ghost use Rattle.txs_types.specs.Files as files;
 
-use crate::declarations::variables_of;
+use crate::declarations::{is_undefined, variables_of};
 use sqlite_items::Items;
 use std::alloc::Global;
 use txs_syntax::{ConDef, Decl, Def, Name};
@@ -49,39 +49,6 @@ pub fn table_of(alloc: Global, types: &[Name], defs: &[Def]) -> Result<TypeTable
         add_type(alloc, types, &mut table, def)?;
     }
     Ok(table)
-}
-
-fn is_text(text: &Text, name: &str) -> bool
-    ensures { result ≡ files.is_among text.now (name.now ∷ []) }
-{
-    text.as_str() == name
-}
-
-fn is_built_in(text: &Text) -> bool
-    ensures { result ≡ files.is_among text.now files.built_in_types }
-{
-    is_text(text, "Int") || is_text(text, "Bool") || is_text(text, "String")
-}
-
-fn has_name(text: &Text, types: &[Name]) -> bool
-    ensures { result ≡ files.is_among text.now (map (λ x. x.text) types.now) }
-{
-    for ty in types {
-        if is_text(text, ty.text.as_str()) {
-            return true;
-        }
-    }
-    false
-}
-
-/// Whether this type name has no definition.
-pub fn is_undefined(types: &[Name], name: &Name) -> bool
-    ensures { result ≡ files.is_undefined types.now name.now }
-{
-    if is_built_in(&name.text) {
-        return false;
-    }
-    !has_name(&name.text, types)
 }
 
 fn any_in_decls(types: &[Name], decls: &[Decl]) -> bool

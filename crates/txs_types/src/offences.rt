@@ -6,9 +6,10 @@ ghost use Rattle.txs_types.specs.Among.{Among, AmongDefs, IsTwice, AnyUndefined,
 use crate::declarations::{names_in, undefined, undefined_name};
 use crate::definitions::defined_names;
 use crate::fault::TypeFault;
-use crate::file_names::{built_ins, number_after, texts_of};
+use crate::global_names::{built_ins, texts_of};
 use crate::least::least;
 use crate::names::repeated;
+use crate::numbers::number_of;
 use sqlite_items::Items;
 use std::alloc::Global;
 use txs_syntax::{ConDef, DeclList, Def, Name};
@@ -149,10 +150,9 @@ pub fn bad_type(
     ensures { IfOk result (λ f. Finds f (Among (BadDefault table.now) types.now)) }
 {
     let mut fault = None;
-    let mut number: u32 = 0;
-    for name in types {
+    for (place, name) in types.iter().enumerate() {
+        let number = number_of(place)?;
         fault = least(fault, bad_default(alloc, table, number, name)?);
-        number = number_after(number)?;
     }
     Ok(fault)
 }

@@ -18,8 +18,9 @@ use crate::expression::expression;
 use crate::fault::{TypeFault, lesser};
 use crate::least::least;
 use crate::names::repeated;
+use crate::numbers::number_of;
 use crate::scope::Scope;
-use crate::table_names::{global_names, number_of};
+use crate::table_names::global_names;
 use crate::typed::Typed;
 use sqlite_items::Items;
 use std::alloc::Global;
@@ -28,7 +29,7 @@ use txs_terms::{Defs, Expr};
 use txs_values::{NoMemory, Ty, TypeDef};
 
 /// The names of the types of a table. Of their places nothing is asked.
-fn type_names(alloc: Global, table: &[TypeDef]) -> Result<Items<Name>, NoMemory>
+fn names_of_table(alloc: Global, table: &[TypeDef]) -> Result<Items<Name>, NoMemory>
     ensures { IfOk result (λ ns. ns ≡ names_of (table_of table.now)) }
 {
     let mut types = Items::new(alloc);
@@ -99,7 +100,7 @@ pub fn type_query(
         → IsSafe (definitions_of defs.now) (field_types (variables_of (names_of defs.now.0) decls.now)) (expr_of e) t) }
     ensures offends { IfErr result (λ f. Told f (QueryOffends (definitions_of defs.now) decls.now (want_of want) tree.now)) }
 {
-    let types = type_names(alloc, defs.table().as_slice())?;
+    let types = names_of_table(alloc, defs.table().as_slice())?;
     let declared = declaration_fault(alloc, types.as_slice(), decls)?;
     let mut scope = scope_over(alloc, defs, types.as_slice(), decls)?;
     decided(declared, expression(alloc, &mut scope, want, tree))

@@ -10,7 +10,7 @@ use Rattle.txs_types.specs.Names.{named_function, named_test, named_selector, na
 use Rattle.txs_types.specs.Elaborates.{Makes, function_made, test_made, selector_made, not_made, to_string_made, from_string_made, len_made, at_made}
 use Rattle.txs_types.specs.View.{meaning_of}
 use Rattle.txs_types.proofs.Unique.{some_injective}
-use Rattle.txs_types.proofs.Exprs.{seen_call}
+use Rattle.txs_terms.proofs.Views.{at_call}
 use Rattle.txs_types.specs.Parts.{Applies}
 use Rattle.txs_types.proofs.Calls.{of_one, of_two}
 use Rattle.txs_types.proofs.call.applied.Goals as goal
@@ -21,7 +21,7 @@ returns-in-Function c =
     let t = ty_of c.args.ty in
     let es = exprs_of c.args.args in
     let f = c.in-Function.number in
-    let e : expr_of (rust_call.Call f c.args.args) ≡ apply f (gathered es) = seen_call f c.args.args in
+    let e : expr_of (rust_call.Call f c.args.args) ≡ apply f (gathered es) = at_call f c.args.args in
     subst (λ (m : rust_meaning.Meaning). Applies (meaning_of m ts) t es (expr_of (rust_call.Call f c.args.args))) (sym c.in-Function.is)
     (λ want h. subst (Makes want (named_function f ts (ty_of c.in-Function.gives)) es (expr_of (rust_call.Call f c.args.args))) (some_injective h)
     (subst (λ x. Makes want (named_function f ts (ty_of c.in-Function.gives)) es x (ty_of c.in-Function.gives)) (sym e) (function_made want f ts (ty_of c.in-Function.gives) es)))

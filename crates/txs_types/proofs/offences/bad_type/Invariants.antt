@@ -1,8 +1,8 @@
-use Rattle.std.proofs.Common.{◌≡◌, take}
+use Rattle.std.proofs.Common.{take}
 use Rattle.txs_types.specs.Told.{Finds}
 use Rattle.txs_types.specs.Among.{Among, BadDefault}
 use Rattle.txs_types.proofs.offences.bad_type.Given as goal
 
 -- the fault so far
-abbrev pub invariant-loop-name : goal.invariant-loop-name
-invariant-loop-name l = record { index : l.number ≡ l.name-index; found : Finds l.fault (Among (BadDefault l.table) (take l.name-index l.types)) }
+abbrev pub invariant-loop-place : goal.invariant-loop-place
+invariant-loop-place l = Finds l.fault (Among (BadDefault l.table) (take l.place l.types))

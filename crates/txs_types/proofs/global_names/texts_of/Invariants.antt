@@ -1,6 +1,6 @@
 use Rattle.std.proofs.Common.{◌≡◌, ◌++◌, drop, map}
 use Rattle.txs_types.specs.View.{globals_of}
-use Rattle.txs_types.proofs.file_names.texts_of.Given as goal
+use Rattle.txs_types.proofs.global_names.texts_of.Given as goal
 
 -- the names so far, with those that are left
 abbrev pub invariant-loop-global : goal.invariant-loop-global

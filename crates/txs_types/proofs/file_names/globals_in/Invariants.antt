@@ -1,9 +1,0 @@
-use Rattle.std.proofs.Common.{◌≡◌, ◌++◌, drop}
-use Rattle.txs_types.specs.Files as files
-use Rattle.txs_types.specs.View.{globals_of}
-use Rattle.txs_types.specs.Counted.{globals_from}
-use Rattle.txs_types.proofs.file_names.globals_in.Given as goal
-
--- the names so far, with those that are left
-abbrev pub invariant-loop-def : goal.invariant-loop-def
-invariant-loop-def l = globals_of l.globals ++ globals_from l.types l.counts (drop l.def-index l.defs) ≡ files.globals_in l.types 0 0 0 0 l.defs

@@ -1,0 +1,23 @@
+ghost use Rattle.std.specs.Prelude.{◌≡◌, ◌+◌, IfOk};
+
+use txs_values::NoMemory;
+
+/// The number that what stands at this place goes by. Want of memory is answered where it is not below 2^32.
+pub fn number_of(place: usize) -> Result<u32, NoMemory>
+    ensures { IfOk result (λ n. n ≡ place) }
+{
+    match u32::try_from(place) {
+        Ok(number) => Ok(number),
+        Err(_) => Err(NoMemory),
+    }
+}
+
+/// The place behind so many more. Want of memory is answered where it is not below 2^64.
+pub fn place_behind(place: usize, many: usize) -> Result<usize, NoMemory>
+    ensures { IfOk result (λ p. p ≡ place + many) }
+{
+    match place.checked_add(many) {
+        Some(behind) => Ok(behind),
+        None => Err(NoMemory),
+    }
+}
