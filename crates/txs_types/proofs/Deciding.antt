@@ -1,12 +1,13 @@
 -- Which fault decides, where offences stand at several of a list.
 use Rattle.std.proofs.Common.{◌≡◌, ◌⊎◌, inl, inr, ◌<◌, ◌≤◌, ◌+◌, ℕ, zero, suc, ap, sym, subst, ◌∙◌, List, [], ◌∷◌, ◌++◌, length, take, get_or, slice_get, Option, Some, None, refl, arith}
-use Rattle.std.proofs.lemmas.List.{take_more, take_all, length-take-le}
+use Rattle.std.proofs.lemmas.List.{take_all, length-take-le}
 use Rattle.txs_types.specs.declared.fault.TypeFault.{TypeFault}
 use Rattle.txs_types.specs.Offends.{Offence}
 use Rattle.txs_types.specs.Told.{Least, Finds}
 use Rattle.txs_types.specs.Among.{Among}
 use Rattle.txs_types.proofs.Unique.{some_injective}
 use Rattle.txs_types.proofs.NotBoth.{none≢some}
+use Rattle.txs_types.proofs.Gathering.{taken_more}
 use Rattle.txs_types.proofs.ToldLaws.{Either, finds_same, finds_least}
 
 -- ---- no fault
@@ -62,9 +63,6 @@ among_least At xs x f g r p q l =
     (finds_least f g r (Among At xs) (At (length xs) x) l p q)
 
 -- as far as the loop has come, and one more
-pub taken_more : {A : Type 0} (xs : List A) (i : ℕ) (x : A) → i < length xs → x ≡ get_or xs i x → take i xs ++ x ∷ [] ≡ take (i + 1) xs
-taken_more xs i x below is = ap (λ y. take i xs ++ y ∷ []) is ∙ sym (take_more xs i x below)
-
 pub among_more : {A : Type 0} (At : ℕ → A → Offence → Type 0) (xs : List A) (i : ℕ) (x : A) (f g r : Option TypeFault) → i < length xs → x ≡ get_or xs i x
     → Finds f (Among At (take i xs)) → Finds g (At i x) → Least f g r → Finds r (Among At (take (i + 1) xs))
 among_more At xs i x f g r below is p q l =

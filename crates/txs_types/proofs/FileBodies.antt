@@ -24,7 +24,8 @@ use Rattle.txs_types.specs.View.{scope_of}
 use Rattle.txs_types.specs.Among.{AmongDefs, InFunction, InConstant, FunctionsHaveInts, ConstantsHaveInts, IsOfFile}
 use Rattle.txs_types.specs.Collected.{FunctionsMeant, ConstantsMeant, FunctionIn, ConstantIn, FunctionsFound, ConstantsFound, Judged, IsAdded, IsFound}
 use Rattle.txs_types.proofs.NotBoth.{none≢some, not_both}
-use Rattle.txs_types.proofs.Deciding.{least_none, least_right, among_least, among_none, taken_more}
+use Rattle.txs_types.proofs.Gathering.{taken_more}
+use Rattle.txs_types.proofs.Deciding.{least_none, least_right, among_least, among_none}
 
 -- ---- the scope
 

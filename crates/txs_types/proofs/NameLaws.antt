@@ -1,8 +1,8 @@
 -- Loops over names: the number of a type, names without a definition, names that stand before already.
-use Rattle.std.proofs.Common.{◌≡◌, ◌⊎◌, ◌<◌, ◌+◌, ℕ, zero, suc, Bool, true, false, ◌||◌, cond, bytes_eq, refl, sym, ap, subst, ◌∙◌, inl, inr, List, [], ◌∷◌, ◌++◌, length, map, take, drop, get_or, Option, Some, None, MatchBool, add-one, true≢false, arith}
-use Rattle.std.proofs.lemmas.List.{take_more, map-append}
+use Rattle.std.proofs.Common.{◌≡◌, ◌⊎◌, ◌<◌, ◌+◌, ℕ, suc, Bool, true, false, ◌||◌, cond, bytes_eq, refl, sym, ap, subst, ◌∙◌, inl, inr, List, [], ◌∷◌, ◌++◌, length, map, take, drop, get_or, Option, Some, None, MatchBool, add-one, true≢false, arith}
+use Rattle.std.proofs.lemmas.List.{map-append}
 use Rattle.txs_types.proofs.Tests.{same_text, other_text}
-use Rattle.txs_types.proofs.Gathering.{left_over}
+use Rattle.txs_types.proofs.Gathering.{left_over, taken_more}
 use Rattle.txs_syntax.specs.declared.ast.Name.{Name}
 use Rattle.txs_syntax.specs.declared.file.Decl.{Decl}
 use Rattle.txs_types.specs.declared.fault.TypeFault.{TypeFault}
@@ -12,12 +12,6 @@ use Rattle.txs_types.specs.Files.{type_number, is_among, types_used, Repeats, he
 use Rattle.txs_types.specs.Told.{Least, Finds}
 use Rattle.txs_types.specs.Among.{IsTwice}
 use Rattle.txs_types.proofs.ToldLaws.{Either, finds_same, finds_least}
-
--- ---- the item at hand
-
--- what was passed ends with the item at hand
-pub passed_is : {A : Type 0} (xs : List A) (i : ℕ) (x : A) → i < length xs → x ≡ get_or xs i x → take (i + 1) xs ≡ take i xs ++ x ∷ []
-passed_is xs i x h e = take_more xs i x h ∙ ap (λ y. take i xs ++ y ∷ []) (sym e)
 
 -- ---- the number of a type
 
@@ -51,7 +45,7 @@ among_passed x types i n h e other =
 
 -- the types of the declarations so far, with one declaration more
 pub used_next : (decls : List Decl) (i : ℕ) (d : Decl) → i < length decls → d ≡ get_or decls i d → types_used (take (i + 1) decls) ≡ types_used (take i decls) ++ d.ty ∷ []
-used_next decls i d h e = ap types_used (passed_is decls i d h e) ∙ map-append (λ d. d.ty) (take i decls) (d ∷ [])
+used_next decls i d h e = ap types_used (sym (taken_more decls i d h e)) ∙ map-append (λ d. d.ty) (take i decls) (d ∷ [])
 
 -- ---- names that stand before already
 
@@ -129,4 +123,4 @@ pub seen_put : (x : List ℕ) (xs : List (List ℕ)) (ns : List Name) (i : ℕ) 
     → new ≡ cond (bytes_eq n.text x) true old → old ≡ is_among x (seen xs (take i ns)) → new ≡ is_among x (seen xs (take (i + 1) ns))
 seen_put x xs ns i n old new h e p q =
     p ∙ (ap (cond (bytes_eq n.text x) true) q
-    ∙ (sym (or_same (bytes_eq n.text x) (is_among x (seen xs (take i ns)))) ∙ sym (ap (λ ms. is_among x (seen xs ms)) (passed_is ns i n h e) ∙ ap (is_among x) (seen_next xs (take i ns) n))))
+    ∙ (sym (or_same (bytes_eq n.text x) (is_among x (seen xs (take i ns)))) ∙ sym (ap (λ ms. is_among x (seen xs ms)) (sym (taken_more ns i n h e)) ∙ ap (is_among x) (seen_next xs (take i ns) n))))

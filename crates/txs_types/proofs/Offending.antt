@@ -13,7 +13,7 @@ use Rattle.txs_types.specs.Told.{Finds, Least}
 use Rattle.txs_types.specs.Among.{AnyUndefined, BadDefault, none, big}
 use Rattle.txs_types.proofs.Unique.{some_injective}
 use Rattle.txs_types.proofs.NotBoth.{none≢some}
-use Rattle.txs_types.proofs.Deciding.{taken_more}
+use Rattle.txs_types.proofs.Gathering.{taken_more}
 use Rattle.txs_types.proofs.ToldLaws.{finds_same, finds_least}
 use Rattle.txs_types.proofs.Collecting.{fields_append}
 

@@ -7,6 +7,7 @@ ghost use Rattle.txs_types.specs.Names as names;
 ghost use Rattle.txs_types.specs.View.{scope_of, typed_of, wants_of, called_of, meaning_of, global_of};
 
 use crate::meaning::{GlobalName, GlobalNames, Meaning};
+use crate::numbers::number_of;
 use crate::typed::Typed;
 use sqlite_items::Items;
 use std::alloc::Global;
@@ -131,9 +132,7 @@ fn needs_of(
 fn variable(number: usize, ty: Ty, local: bool) -> Result<Typed, NoMemory>
     ensures { IfOk result (λ t. typed_of t ≡ ((if local then of.local number else of.slot number), ty_of ty)) }
 {
-    let Ok(number) = u32::try_from(number) else {
-        return Err(NoMemory);
-    };
+    let number = number_of(number)?;
     let expr = if local {
         Expr::Local(number)
     } else {

@@ -1,10 +1,11 @@
-use Rattle.std.proofs.Common.{◌≡◌, MatchBool, Some, None, take, sym, subst}
+use Rattle.std.proofs.Common.{◌≡◌, MatchBool, Some, None, take, subst}
 use Rattle.std.specs.BTreeSet.{contains_text}
 use Rattle.std.proofs.lemmas.List.{take_all}
 use Rattle.txs_types.specs.declared.fault.TypeFault.TheVariants as fault
 use Rattle.txs_types.specs.Told.{Finds}
 use Rattle.txs_types.specs.Among.{IsTwice}
-use Rattle.txs_types.proofs.NameLaws.{repeats_next, passed_is, seen_put}
+use Rattle.txs_types.proofs.NameLaws.{repeats_next, seen_put}
+use Rattle.txs_types.proofs.Gathering.{taken_more}
 use Rattle.txs_types.proofs.names.repeated.Goals as goal
 
 pub loop-name-preserved : goal.loop-name-preserved
@@ -17,7 +18,7 @@ loop-name-preserved c =
     let r = c.least-fault.result in
     record {
       told =
-          subst (λ ns. Finds r (IsTwice before ns)) (sym (passed_is names i n c.loop-name-test.true c.name-item.is))
+          subst (λ ns. Finds r (IsTwice before ns)) (taken_more names i n c.loop-name-test.true c.name-item.is)
           (repeats_next before (take i names) n c.loop-name.fault g r c.loop-name.invariant.told
           (subst (λ b. MatchBool b (g ≡ Some (fault.Twice n.at)) (g ≡ None)) (c.loop-name.invariant.seen n.text) c.repeated_name.ensures) c.least-fault.ensures);
       seen = λ x.
