@@ -1,5 +1,5 @@
 -- What is well typed is safe.
-use Rattle.std.proofs.Common.{◌≡◌, ℕ, List, []}
+use Rattle.std.proofs.Common.{List, []}
 use Rattle.txs_values.specs.Value.{Ty, Value, HaveTypes}
 use Rattle.txs_terms.specs.Expr.{Expr, put, filled}
 use Rattle.txs_terms.specs.Eval.{height_limit}

@@ -1,5 +1,5 @@
 -- Within the crate: the offences of a file by the parts that they stand in.
-use Rattle.std.specs.Prelude.{◌≡◌, ◌⊎◌, ◌<◌, ℕ, true, List, [], ◌∷◌, ◌++◌, length, map, Option, Some, None, slice_get}
+use Rattle.std.specs.Prelude.{◌≡◌, ◌⊎◌, ◌<◌, ℕ, true, List, [], ◌∷◌, ◌++◌, length, map, Some, None, slice_get}
 use Rattle.txs_values.specs.Value.{Value, Table, named, size, height, value_size_limit, value_height_limit}
 use Rattle.txs_values.specs.TableView.{field_of}
 use Rattle.txs_values.specs.Default.{default_if}
