@@ -1,16 +1,15 @@
 -- Definitions of one function that are well typed, and expressions over them.
-use Rattle.std.proofs.Common.{◌≡◌, ℕ, zero, suc, ◌<◌, ℤ, pos, true, List, [], ◌∷◌, Option, None, Some, refl, sym, subst, arith, slice_get, FitsSigned, codes}
+use Rattle.std.proofs.Common.{◌≡◌, ℕ, zero, suc, ℤ, pos, true, List, [], ◌∷◌, Option, None, Some, refl, sym, subst, arith, slice_get, FitsSigned}
 use Rattle.std.specs.Int.{w128}
-use Rattle.txs_values.specs.Value.{Ty, whole, string, named, Table, Constructor, Place, place_of, field_types, num, cons, no_value, fits, Value}
-use Rattle.txs_values.specs.Default.{default_if}
-use Rattle.txs_values.specs.Spelled.{IsName, IsNamed}
+use Rattle.txs_values.specs.Value.{Ty, whole, string, Table, num, fits}
+use Rattle.txs_values.specs.Spelled.{IsNamed}
 use Rattle.txs_terms.specs.declared.defs.FunctionDef as rust_function
 use Rattle.txs_terms.specs.declared.defs.ConstantDef as rust_constant
 use Rattle.txs_terms.specs.declared.expr.Binary as rust_binary
 use Rattle.txs_terms.specs.declared.expr.Binary.TheVariants as binary
 use Rattle.txs_terms.specs.View.{binary_of, function_of, definitions_of}
-use Rattle.txs_terms.specs.Expr.{Expr, val, slot, one, two, equal, choose, apply, build, none, more, minus, concat, is_made_by, select}
-use Rattle.txs_terms.specs.Typed.{Signature, IsType, Of, BinaryOf, plus_of, minus_of, times_of, divide_of, remainder_of, concat_of, differ_of, less_of, at_most_of, more_of, at_least_of, made_by_of, select_of, IsTable, AreTypes, val_of, slot_of, one_of, two_of, equal_of, choose_of, apply_of, build_of, none_of, more_of'}
+use Rattle.txs_terms.specs.Expr.{Expr, val, slot, two, equal, choose, apply, none, more, minus, concat}
+use Rattle.txs_terms.specs.Typed.{Signature, IsType, Of, BinaryOf, plus_of, minus_of, times_of, divide_of, remainder_of, concat_of, differ_of, less_of, at_most_of, more_of, at_least_of, IsTable, AreTypes, val_of, slot_of, two_of, equal_of, choose_of, apply_of, none_of, more_of'}
 use Rattle.txs_terms.specs.Defs.{Function, Definitions, AreDefined, bodies, signatures_of}
 use Rattle.txs_eval.specs.Answer.{IsTyped}
 use Rattle.txs_eval.proofs.Ranges.{fits_true}

@@ -21,7 +21,7 @@ run_long defs zero env e n h l = absurd (h refl)
 run_long defs (suc left) env e n h l = let q : ltb n node_limit ≡ false = rw limit_is (le-ltb n 1000000 l) in rw q refl
 
 pub run_node : (defs : Defs) (left : ℕ) (env : Environment) (e : Expr) (n : ℕ) → (left ≡ 0 → ⊥) → n < 1000000
-    → node_under defs (run_under defs (left - 1)) env e (n + 1) ≡ run_under defs left env e n
+    → run_under defs left env e n ≡ node_under defs (run_under defs (left - 1)) env e (n + 1)
 run_node defs zero env e n h l = absurd (h refl)
 run_node defs (suc left) env e n h l =
     let q : ltb n node_limit ≡ true = rw limit_is (lt-ltb n 1000000 l) in

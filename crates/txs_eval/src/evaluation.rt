@@ -1,4 +1,4 @@
-ghost use Rattle.std.specs.Prelude.{◌≡◌, ◌≢◌, ◌≤◌, IfOk, Err, []};
+ghost use Rattle.std.specs.Prelude.{◌≡◌, IfOk, []};
 ghost use Rattle.txs_values.specs.Value.{Ty as TheType, HasType};
 ghost use Rattle.txs_values.specs.View.{value_of, values_of};
 ghost use Rattle.txs_terms.specs.Eval as spec;
@@ -8,9 +8,9 @@ ghost use Rattle.txs_terms.specs.Under as under;
 ghost use Rattle.txs_terms.specs.Under.{each_under, node_under, run_under};
 ghost use Rattle.txs_terms.specs.Defs.{bodies};
 ghost use Rattle.txs_terms.specs.View.{definitions_of, expr_of, exprs_of, gathered, unary_of, binary_of};
-ghost use Rattle.txs_eval.specs.Answer.{Answers, IsTyped, Ends, EndEach, Stopped, around};
+ghost use Rattle.txs_eval.specs.Answer.{Answers, IsTyped, Ends, EndEach, around};
 
-use crate::fault::{EvalFault, Stop};
+use crate::fault::{EvalFault, Stop, fault_of};
 use crate::found::{built, copied, looked_up, on_equal, on_one, on_two, pushed, truth, unbind};
 use sqlite_items::{Boxed, Items};
 use std::alloc::Global;
@@ -35,25 +35,9 @@ pub fn eval(alloc: Global, defs: &Defs, expr: &Expr, values: &Values) -> Result<
     }
 }
 
-fn fault_of(stop: Stop) -> EvalFault
-    requires { stop ≢ Stop.Wrong }
-    ensures { (r : spec.Run) → Stopped spec.bad stop r → Answers r (Err result) }
-{
-    match stop {
-        Stop::Division => EvalFault::Division,
-        Stop::Range => EvalFault::Range,
-        Stop::Selector => EvalFault::Selector,
-        Stop::Form => EvalFault::Form,
-        Stop::High => EvalFault::High,
-        Stop::Long => EvalFault::Long,
-        Stop::Size => EvalFault::Size,
-        Stop::NoMemory => EvalFault::NoMemory,
-        Stop::Wrong => unreachable!(),
-    }
-}
-
 /// The value of an expression where `left` more levels may be entered and `nodes` nodes were, with the nodes that were entered then.
 #[cycle(eval)]
+#[tactic(auto, using(crate::proofs::Steps::run_long, crate::proofs::Steps::run_node))]
 fn value_at(
     alloc: Global,
     defs: &Defs,
@@ -64,7 +48,6 @@ fn value_at(
     nodes: u32,
 ) -> Result<(Value, u32), Stop>
     ensures value { Ends result (run_under (bodies (definitions_of defs.now)) left (around slots.now locals.old) (expr_of expr.now) nodes) }
-    ensures within { IfOk result (λ p. p.1 ≤ 1000000) }
     ensures kept { locals.new ≡ locals.old }
 {
     if left == 0 {
@@ -87,10 +70,8 @@ fn node(
     expr: &Expr,
     nodes: u32,
 ) -> Result<(Value, u32), Stop>
-    requires { nodes ≤ 1000000 }
     ensures value { let d = bodies (definitions_of defs.now) in
         Ends result (node_under d (run_under d left) (around slots.now locals.old) (expr_of expr.now) nodes) }
-    ensures within { IfOk result (λ p. p.1 ≤ 1000000) }
     ensures kept { locals.new ≡ locals.old }
 {
     match expr {
@@ -130,9 +111,8 @@ fn constant(
     at: u32,
     nodes: u32,
 ) -> Result<(Value, u32), Stop>
-    ensures value { let d = bodies (definitions_of defs.now) in
+    ensures { let d = bodies (definitions_of defs.now) in
         Ends result (node_under d (run_under d left) (around [] []) (of.constant at) nodes) }
-    ensures within { IfOk result (λ p. p.1 ≤ 1000000) }
 {
     match defs.constants().get(at as usize) {
         Some(constant) => body(alloc, defs, left, &[], &constant.body, nodes),
@@ -154,7 +134,6 @@ fn one(
 ) -> Result<(Value, u32), Stop>
     ensures value { let d = bodies (definitions_of defs.now) in
         Ends result (node_under d (run_under d left) (around slots.now locals.old) (of.one (unary_of operator) (expr_of a.now)) nodes) }
-    ensures within { IfOk result (λ p. p.1 ≤ 1000000) }
     ensures kept { locals.new ≡ locals.old }
 {
     on_one(
@@ -180,7 +159,6 @@ fn two(
 ) -> Result<(Value, u32), Stop>
     ensures value { let d = bodies (definitions_of defs.now) in
         Ends result (node_under d (run_under d left) (around slots.now locals.old) (of.two (binary_of operator) (expr_of a.now) (expr_of b.now)) nodes) }
-    ensures within { IfOk result (λ p. p.1 ≤ 1000000) }
     ensures kept { locals.new ≡ locals.old }
 {
     match value_at(alloc, defs, left, slots, locals, a.get(), nodes) {
@@ -208,7 +186,6 @@ fn equal(
 ) -> Result<(Value, u32), Stop>
     ensures value { let d = bodies (definitions_of defs.now) in
         Ends result (node_under d (run_under d left) (around slots.now locals.old) (of.equal (expr_of a.now) (expr_of b.now)) nodes) }
-    ensures within { IfOk result (λ p. p.1 ≤ 1000000) }
     ensures kept { locals.new ≡ locals.old }
 {
     match value_at(alloc, defs, left, slots, locals, a.get(), nodes) {
@@ -234,7 +211,6 @@ fn both(
 ) -> Result<(Value, u32), Stop>
     ensures value { let d = bodies (definitions_of defs.now) in
         Ends result (node_under d (run_under d left) (around slots.now locals.old) (of.both (expr_of a.now) (expr_of b.now)) nodes) }
-    ensures within { IfOk result (λ p. p.1 ≤ 1000000) }
     ensures kept { locals.new ≡ locals.old }
 {
     match truth(value_at(alloc, defs, left, slots, locals, a.get(), nodes)) {
@@ -258,7 +234,6 @@ fn either(
 ) -> Result<(Value, u32), Stop>
     ensures value { let d = bodies (definitions_of defs.now) in
         Ends result (node_under d (run_under d left) (around slots.now locals.old) (of.either (expr_of a.now) (expr_of b.now)) nodes) }
-    ensures within { IfOk result (λ p. p.1 ≤ 1000000) }
     ensures kept { locals.new ≡ locals.old }
 {
     match truth(value_at(alloc, defs, left, slots, locals, a.get(), nodes)) {
@@ -283,7 +258,6 @@ fn choose(
 ) -> Result<(Value, u32), Stop>
     ensures value { let d = bodies (definitions_of defs.now) in
         Ends result (node_under d (run_under d left) (around slots.now locals.old) (of.choose (expr_of c.now) (expr_of a.now) (expr_of b.now)) nodes) }
-    ensures within { IfOk result (λ p. p.1 ≤ 1000000) }
     ensures kept { locals.new ≡ locals.old }
 {
     match truth(value_at(alloc, defs, left, slots, locals, c.get(), nodes)) {
@@ -305,10 +279,8 @@ fn call(
     args: &Exprs,
     nodes: u32,
 ) -> Result<(Value, u32), Stop>
-    requires { nodes ≤ 1000000 }
     ensures value { let d = bodies (definitions_of defs.now) in
         Ends result (node_under d (run_under d left) (around slots.now locals.old) (of.apply function (gathered (exprs_of args.now))) nodes) }
-    ensures within { IfOk result (λ p. p.1 ≤ 1000000) }
     ensures kept { locals.new ≡ locals.old }
 {
     match each(alloc, defs, left, slots, locals, args.as_slice(), nodes) {
@@ -332,10 +304,8 @@ fn build(
     args: &Exprs,
     nodes: u32,
 ) -> Result<(Value, u32), Stop>
-    requires { nodes ≤ 1000000 }
     ensures value { let d = bodies (definitions_of defs.now) in
         Ends result (node_under d (run_under d left) (around slots.now locals.old) (of.build constructor (gathered (exprs_of args.now))) nodes) }
-    ensures within { IfOk result (λ p. p.1 ≤ 1000000) }
     ensures kept { locals.new ≡ locals.old }
 {
     built(
@@ -359,7 +329,6 @@ fn let_in(
     ensures value { let ev = run_under (bodies (definitions_of defs.now)) left in
         let env = around slots.now locals.old in
         Ends result (spec.then_run (ev env (expr_of a.now) nodes) (λ v. ev (under.with_variable env v) (expr_of b.now))) }
-    ensures within { IfOk result (λ p. p.1 ≤ 1000000) }
     ensures kept { locals.new ≡ locals.old }
 {
     let found = value_at(alloc, defs, left, slots, locals, a.get(), nodes);
@@ -383,8 +352,7 @@ fn body(
     body: &Expr,
     nodes: u32,
 ) -> Result<(Value, u32), Stop>
-    ensures value { Ends result (run_under (bodies (definitions_of defs.now)) left (around parameters.now []) (expr_of body.now) nodes) }
-    ensures within { IfOk result (λ p. p.1 ≤ 1000000) }
+    ensures { Ends result (run_under (bodies (definitions_of defs.now)) left (around parameters.now []) (expr_of body.now) nodes) }
 {
     let mut locals = Items::new(alloc);
     value_at(alloc, defs, left, parameters, &mut locals, body, nodes)
@@ -401,10 +369,8 @@ fn each(
     exprs: &[Expr],
     nodes: u32,
 ) -> Result<(Values, u32), Stop>
-    requires { nodes ≤ 1000000 }
     ensures value { let d = bodies (definitions_of defs.now) in
         EndEach result (each_under (run_under d left (around slots.now locals.old)) (exprs_of exprs.now) nodes) }
-    ensures within { IfOk result (λ p. p.1 ≤ 1000000) }
     ensures kept { locals.new ≡ locals.old }
 {
     let mut values = Items::new(alloc);

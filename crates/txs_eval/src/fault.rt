@@ -1,5 +1,7 @@
-ghost use Rattle.std.specs.Prelude.{◌≡◌};
+ghost use Rattle.std.specs.Prelude.{◌≡◌, ◌≢◌, Err};
+ghost use Rattle.txs_terms.specs.Eval as spec;
 ghost use Rattle.txs_eval.specs.declared.fault.Stop.TheVariants.{NoMemory as wanting};
+ghost use Rattle.txs_eval.specs.Answer.{Answers, Stopped};
 
 use std::alloc::{AllocError, AllocFailed};
 use thiserror::Error;
@@ -53,5 +55,24 @@ impl From<AllocError> for Stop {
 
     fn from(_e: AllocError) -> Stop {
         Stop::NoMemory
+    }
+}
+
+/// The fault that a well typed expression stops by.
+pub fn fault_of(stop: Stop) -> EvalFault
+    requires { stop ≢ Stop.Wrong }
+    ensures answer { (r : spec.Run) → Stopped spec.bad stop r → Answers r (Err result) }
+    ensures memory { result ≡ EvalFault.NoMemory → stop ≡ Stop.NoMemory }
+{
+    match stop {
+        Stop::Division => EvalFault::Division,
+        Stop::Range => EvalFault::Range,
+        Stop::Selector => EvalFault::Selector,
+        Stop::Form => EvalFault::Form,
+        Stop::High => EvalFault::High,
+        Stop::Long => EvalFault::Long,
+        Stop::Size => EvalFault::Size,
+        Stop::NoMemory => EvalFault::NoMemory,
+        Stop::Wrong => unreachable!(),
     }
 }

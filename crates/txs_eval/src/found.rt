@@ -1,4 +1,4 @@
-ghost use Rattle.std.specs.Prelude.{◌≡◌, ◌≤◌, IfOk, OnErr, IfErr, Ok, List, [], ◌∷◌, ◌++◌, slice_get};
+ghost use Rattle.std.specs.Prelude.{◌≡◌, IfOk, OnErr, IfErr, Ok, List, [], ◌∷◌, ◌++◌, slice_get};
 ghost use Rattle.txs_values.specs.Spelled.{IsNamed};
 ghost use Rattle.txs_values.specs.declared.value.Value as rust;
 ghost use Rattle.txs_values.specs.Value.{bool, cons, packed, same_value};
@@ -18,16 +18,14 @@ use txs_values::{TypeTable, Value, Values, copy_value};
 
 /// A value that stands in the expression.
 pub fn copied(alloc: Global, value: &Value, nodes: u32) -> Result<(Value, u32), Stop>
-    ensures value { Ends result (spec.got (value_of value.now) nodes) }
-    ensures within { IfOk result (λ p. p.1 ≡ nodes) }
+    ensures { Ends result (spec.got (value_of value.now) nodes) }
 {
     Ok((copy_value(alloc, value)?, nodes))
 }
 
 /// The value of a variable.
 pub fn looked_up(alloc: Global, values: &[Value], at: u32, nodes: u32) -> Result<(Value, u32), Stop>
-    ensures value { Ends result (under.looked_up (slice_get (values_of values.now) at) nodes) }
-    ensures within { IfOk result (λ p. p.1 ≡ nodes) }
+    ensures { Ends result (under.looked_up (slice_get (values_of values.now) at) nodes) }
 {
     match values.get(at as usize) {
         Some(value) => Ok((copy_value(alloc, value)?, nodes)),
@@ -38,7 +36,7 @@ pub fn looked_up(alloc: Global, values: &[Value], at: u32, nodes: u32) -> Result
 /// What an operator gives, with the nodes that were entered so far.
 pub fn counted(found: Result<Value, Stop>, nodes: u32) -> Result<(Value, u32), Stop>
     ensures value { (o : spec.Outcome) → Comes found o → Ends result (spec.after o nodes) }
-    ensures within { IfOk result (λ p. p.1 ≡ nodes) }
+    ensures memory { result ≡ Err Stop.NoMemory → found ≡ Err Stop.NoMemory }
 {
     match found {
         Ok(value) => Ok((value, nodes)),
@@ -53,10 +51,8 @@ pub fn on_one(
     operator: Unary,
     found: Result<(Value, u32), Stop>,
 ) -> Result<(Value, u32), Stop>
-    requires named { IsNamed table.now }
-    requires within { IfOk found (λ p. p.1 ≤ 1000000) }
+    requires { IsNamed table.now }
     ensures value { (r : spec.Run) → Ends found r → Ends result (spec.then_run r (λ x. spec.after (spec.unary table.now (unary_of operator) x))) }
-    ensures within { IfOk result (λ p. p.1 ≤ 1000000) }
 {
     match found {
         Ok((a, nodes)) => counted(unary(alloc, table, operator, &a), nodes),
@@ -71,9 +67,7 @@ pub fn on_two(
     a: Value,
     found: Result<(Value, u32), Stop>,
 ) -> Result<(Value, u32), Stop>
-    requires within { IfOk found (λ p. p.1 ≤ 1000000) }
     ensures value { (r : spec.Run) → Ends found r → Ends result (spec.then_run r (λ y. spec.after (spec.binary (binary_of operator) (value_of a) y))) }
-    ensures within { IfOk result (λ p. p.1 ≤ 1000000) }
 {
     match found {
         Ok((b, nodes)) => counted(binary(alloc, operator, &a, &b), nodes),
@@ -83,9 +77,8 @@ pub fn on_two(
 
 /// Whether a value and the one that was found behind it are the same.
 pub fn on_equal(a: Value, found: Result<(Value, u32), Stop>) -> Result<(Value, u32), Stop>
-    requires within { IfOk found (λ p. p.1 ≤ 1000000) }
     ensures value { (r : spec.Run) → Ends found r → Ends result (spec.then_run r (λ y. spec.got (bool (same_value (value_of a) y)))) }
-    ensures within { IfOk result (λ p. p.1 ≤ 1000000) }
+    ensures memory { result ≡ Err Stop.NoMemory → found ≡ Err Stop.NoMemory }
 {
     match found {
         Ok((b, nodes)) => Ok((Value::Bool(same(&a, &b)), nodes)),
@@ -95,9 +88,8 @@ pub fn on_equal(a: Value, found: Result<(Value, u32), Stop>) -> Result<(Value, u
 
 /// The truth value that was found.
 pub fn truth(found: Result<(Value, u32), Stop>) -> Result<(bool, u32), Stop>
-    requires within { IfOk found (λ p. p.1 ≤ 1000000) }
     ensures value { (r : spec.Run) → Ends found r → EndTruth result r }
-    ensures within { IfOk result (λ p. p.1 ≤ 1000000) }
+    ensures memory { result ≡ Err Stop.NoMemory → found ≡ Err Stop.NoMemory }
 {
     match found {
         Ok((Value::Bool(b), nodes)) => Ok((b, nodes)),
@@ -108,9 +100,8 @@ pub fn truth(found: Result<(Value, u32), Stop>) -> Result<(bool, u32), Stop>
 
 /// A constructor with the fields that were found.
 pub fn built(constructor: u32, found: Result<(Values, u32), Stop>) -> Result<(Value, u32), Stop>
-    requires within { IfOk found (λ p. p.1 ≤ 1000000) }
     ensures value { (r : spec.Runs) → EndEach found r → Ends result (spec.then_runs r (λ vs. spec.after (spec.sized (cons constructor (packed vs))))) }
-    ensures within { IfOk result (λ p. p.1 ≤ 1000000) }
+    ensures memory { result ≡ Err Stop.NoMemory → found ≡ Err Stop.NoMemory }
 {
     match found {
         Ok((fields, nodes)) => {

@@ -1,4 +1,4 @@
-ghost use Rattle.std.specs.Prelude.{◌≡◌, neg_ℤ, ℤ, FitsSigned, SomeIff};
+ghost use Rattle.std.specs.Prelude.{◌≡◌, ◌≢◌, neg_ℤ, ℤ, FitsSigned, SomeIff};
 ghost use Rattle.std.specs.Int.{w128};
 ghost use Rattle.txs_terms.specs.Eval.{in_range, divided};
 ghost use Rattle.txs_terms.specs.Expr.{divide, remainder};
@@ -12,7 +12,8 @@ use txs_values::Value;
 
 /// A number, where it is one of Int.
 pub fn whole(number: Option<i128>) -> Result<Value, Stop>
-    ensures { (x : ℤ) → SomeIff number (FitsSigned w128 x) x → Comes result (in_range x) }
+    ensures value { (x : ℤ) → SomeIff number (FitsSigned w128 x) x → Comes result (in_range x) }
+    ensures memory { result ≢ Err Stop.NoMemory }
 {
     match number {
         Some(number) => Ok(Value::Int(number)),
@@ -21,13 +22,15 @@ pub fn whole(number: Option<i128>) -> Result<Value, Stop>
 }
 
 pub fn negated(x: i128) -> Result<Value, Stop>
-    ensures { Comes result (in_range (neg_ℤ x)) }
+    ensures value { Comes result (in_range (neg_ℤ x)) }
+    ensures memory { result ≢ Err Stop.NoMemory }
 {
     whole(x.checked_neg())
 }
 
 fn quotient(x: i128, y: i128) -> Result<Value, Stop>
-    ensures { Comes result (divided divide x y) }
+    ensures value { Comes result (divided divide x y) }
+    ensures memory { result ≢ Err Stop.NoMemory }
 {
     if y == 0 {
         Err(Stop::Division)
@@ -38,7 +41,8 @@ fn quotient(x: i128, y: i128) -> Result<Value, Stop>
 
 /// By -1 nothing is left, also where the quotient is no Int.
 fn rest(x: i128, y: i128) -> Result<Value, Stop>
-    ensures { Comes result (divided remainder x y) }
+    ensures value { Comes result (divided remainder x y) }
+    ensures memory { result ≢ Err Stop.NoMemory }
 {
     if y == 0 {
         Err(Stop::Division)
@@ -51,7 +55,8 @@ fn rest(x: i128, y: i128) -> Result<Value, Stop>
 
 /// An operator on two numbers.
 pub fn on_numbers(operator: Binary, x: i128, y: i128) -> Result<Value, Stop>
-    ensures { Comes result (spec.whole_binary (binary_of operator) x y) }
+    ensures value { Comes result (spec.whole_binary (binary_of operator) x y) }
+    ensures memory { result ≢ Err Stop.NoMemory }
 {
     match operator {
         Binary::Plus => whole(x.checked_add(y)),

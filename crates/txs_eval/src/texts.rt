@@ -1,4 +1,4 @@
-ghost use Rattle.std.specs.Prelude.{◌≡◌, ◌++◌, pos, length, chars, encode_utf8, slice_get};
+ghost use Rattle.std.specs.Prelude.{◌≡◌, ◌≢◌, ◌++◌, pos, length, chars, encode_utf8, slice_get};
 ghost use Rattle.txs_values.specs.Value.{text};
 ghost use Rattle.txs_values.specs.View.{value_of};
 ghost use Rattle.txs_terms.specs.Eval as spec;
@@ -17,7 +17,8 @@ const HEIGHT_LIMIT: u64 = 1_000;
 
 /// The value, where it is neither too large nor too high.
 pub fn sized(value: Value) -> Result<Value, Stop>
-    ensures { Comes result (spec.sized (value_of value)) }
+    ensures value { Comes result (spec.sized (value_of value)) }
+    ensures memory { result ≢ Err Stop.NoMemory }
 {
     if size_of(&value) > SIZE_LIMIT {
         return Err(Stop::Size);
@@ -42,7 +43,8 @@ fn nth_char(text: &str, at: usize) -> Option<char>
 
 /// How many characters the text has.
 pub fn text_length(text: &Text) -> Result<Value, Stop>
-    ensures { Comes result (spec.in_range (pos (length (chars text.now)))) }
+    ensures value { Comes result (spec.in_range (pos (length (chars text.now)))) }
+    ensures memory { result ≢ Err Stop.NoMemory }
 {
     whole(Some(char_count(text.as_str()) as i128))
 }

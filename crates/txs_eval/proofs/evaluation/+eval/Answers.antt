@@ -6,32 +6,19 @@ use Rattle.txs_terms.specs.Defs.{bodies}
 use Rattle.txs_terms.specs.Under.{each_under, run_under}
 use Rattle.txs_terms.specs.View.{definitions_of, expr_of, exprs_of}
 use Rattle.txs_eval.specs.Answer.{Ends, EndEach, Stopped, around}
-use Rattle.txs_eval.proofs.Steps.{run_long, run_node}
 use Rattle.txs_eval.proofs.Nodes.{spread, constant_is, constant_missing, called, call_missing, call_stopped}
 use Rattle.txs_eval.proofs.evaluation.+eval.Goals as goal
 
-pub value_at-returns-then-nodes-ge-NODE_LIMIT-clause-value : goal.value_at-returns-then-nodes-ge-NODE_LIMIT-clause-value
-value_at-returns-then-nodes-ge-NODE_LIMIT-clause-value t c =
-    run_long (bodies (definitions_of c.args.defs.now)) c.args.left (around c.args.slots.now c.args.locals.now) (expr_of c.args.expr.now) c.args.nodes
-    c.if-left-eq0.false c.if-nodes-ge-NODE_LIMIT.true
-
-pub value_at-returns-clause-value : goal.value_at-returns-clause-value
-value_at-returns-clause-value t c =
-    subst (Ends c.node.result)
-    (run_node (bodies (definitions_of c.args.defs.now)) c.args.left (around c.args.slots.now c.args.locals.now) (expr_of c.args.expr.now) c.args.nodes
-    c.if-left-eq0.false c.if-nodes-ge-NODE_LIMIT.false)
-    c.node.ensures.value
-
-pub constant-returns-in-Some-clause-value : goal.constant-returns-in-Some-clause-value
-constant-returns-in-Some-clause-value t c =
+pub constant-returns-in-Some : goal.constant-returns-in-Some
+constant-returns-in-Some t c =
     let b = c.in-Some.ensures.lookup in
     subst (Ends c.body.result)
     (sym (constant_is c.args.defs.now (run_under (bodies (definitions_of c.args.defs.now)) c.args.left) (around [] []) c.args.nodes c.args.at c.in-Some.constant.now
     (subst (λ l. c.args.at < length l) c.constants.ensures b.3.0) (b.1 ∙ ap (λ l. get_or l c.args.at c.in-Some.constant.now) c.constants.ensures)))
-    c.body.ensures.value
+    c.body.ensures
 
-pub constant-returns-in-None-clause-value : goal.constant-returns-in-None-clause-value
-constant-returns-in-None-clause-value t c =
+pub constant-returns-in-None : goal.constant-returns-in-None
+constant-returns-in-None t c =
     constant_missing c.args.defs.now (run_under (bodies (definitions_of c.args.defs.now)) c.args.left) (around [] []) c.args.nodes c.args.at
     (subst (λ l. length l ≤ c.args.at) c.constants.ensures c.in-None.ensures.lookup.3)
 
@@ -58,7 +45,7 @@ call-returns-in-Some-clause-value t c =
     (sym (called c.args.defs.now (run_under (bodies (definitions_of c.args.defs.now)) c.args.left) (around c.args.slots.now c.args.locals.now) c.args.nodes c.args.function (exprs_of c.args.args.now) (values_of c.in-Ok.values) c.in-Ok.nodes c.in-Some.function.now
     (subst (λ l. each_under ((run_under (bodies (definitions_of c.args.defs.now)) c.args.left) (around c.args.slots.now c.args.locals.now)) (exprs_of l) c.args.nodes ≡ gots (values_of c.in-Ok.values) c.in-Ok.nodes) c.as_slice.ensures c.in-Ok.ensures.value)
     (subst (λ l. c.args.function < length l) c.functions.ensures b.3.0) (b.1 ∙ ap (λ l. get_or l c.args.function c.in-Some.function.now) c.functions.ensures)))
-    (subst (λ l. Ends c.body.result ((run_under (bodies (definitions_of c.args.defs.now)) c.args.left) (around l []) (expr_of c.in-Some.function.now.body) c.in-Ok.nodes)) c.as_slice-in-Some.ensures c.body.ensures.value)
+    (subst (λ l. Ends c.body.result ((run_under (bodies (definitions_of c.args.defs.now)) c.args.left) (around l []) (expr_of c.in-Some.function.now.body) c.in-Ok.nodes)) c.as_slice-in-Some.ensures c.body.ensures)
 
 pub call-returns-in-Ok-clause-value : goal.call-returns-in-Ok-clause-value
 call-returns-in-Ok-clause-value t c =

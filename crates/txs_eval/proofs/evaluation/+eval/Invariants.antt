@@ -1,4 +1,4 @@
-use Rattle.std.proofs.Common.{◌≡◌, ◌+◌, ◌*◌, ◌≤◌}
+use Rattle.std.proofs.Common.{◌≡◌, ◌+◌, ◌*◌}
 use Rattle.txs_values.specs.View.{values_of}
 use Rattle.txs_terms.specs.Defs.{bodies}
 use Rattle.txs_terms.specs.View.{definitions_of, exprs_of}
@@ -54,4 +54,4 @@ abbrev pub invariant-each-loop-expr : goal.invariant-each-loop-expr
 invariant-each-loop-expr l =
     (each_under (run_under (bodies (definitions_of l.defs)) l.left (around l.slots l.fn.locals)) (exprs_of l.exprs) l.fn.nodes
     ≡ with_prefix (values_of l.values) (rest_from (run_under (bodies (definitions_of l.defs)) l.left (around l.slots l.fn.locals)) l.exprs l.expr-index l.nodes))
-    × (l.locals ≡ l.fn.locals) × (l.nodes ≤ 1000000)
+    × (l.locals ≡ l.fn.locals)

@@ -8,11 +8,11 @@ use Rattle.txs_eval.proofs.Ranges.{within, past}
 use Rattle.txs_eval.proofs.Views.{at_int}
 use Rattle.txs_eval.proofs.numbers.whole.Goals as goal
 
-pub returns-in-Some : goal.returns-in-Some
-returns-in-Some c = λ x h.
+pub returns-in-Some-clause-value : goal.returns-in-Some-clause-value
+returns-in-Some-clause-value c = λ x h.
     let k = subst (λ o. SomeIff o (FitsSigned w128 x) x) c.in-Some.is h in
     let e = to_z-of_z w128 c.in-Some.number (subst (FitsSigned w128) (sym k.1) k.0) in
     within x k.0 ∙ ap fine (sym (at_int (to_z w128 (of_z w128 c.in-Some.number)) ∙ ap num (e ∙ k.1)))
 
-pub returns-in-None : goal.returns-in-None
-returns-in-None c = λ x h. past x (subst (λ o. SomeIff o (FitsSigned w128 x) x) c.in-None.is h)
+pub returns-in-None-clause-value : goal.returns-in-None-clause-value
+returns-in-None-clause-value c = λ x h. past x (subst (λ o. SomeIff o (FitsSigned w128 x) x) c.in-None.is h)
