@@ -29,10 +29,22 @@ pub fn eval(alloc: Global, defs: &Defs, expr: &Expr, values: &Values) -> Result<
     ensures typed { (t : TheType) → IsTyped (definitions_of defs.now) (values_of values.now) (expr_of expr.now) t
         → IfOk result (λ v. HasType defs.now.0 (value_of v) t) }
 {
-    match body(alloc, defs, HEIGHT_LIMIT, values.as_slice(), expr, 0) {
+    match within_limits(alloc, defs, values.as_slice(), expr) {
         Ok((value, _)) => Ok(value),
         Err(stop) => Err(fault_of(stop)),
     }
+}
+
+/// The value of an expression, slot k of which is the value k, with the nodes that were entered; or what stopped its evaluation, by the limits of height and nodes among them.
+fn within_limits(
+    alloc: Global,
+    defs: &Defs,
+    values: &[Value],
+    expr: &Expr,
+) -> Result<(Value, u32), Stop>
+    ensures { Ends result (run_under (bodies (definitions_of defs.now)) 1000 (around values.now []) (expr_of expr.now) 0) }
+{
+    body(alloc, defs, HEIGHT_LIMIT, values, expr, 0)
 }
 
 /// The value of an expression where `left` more levels may be entered and `nodes` nodes were, with the nodes that were entered then.
