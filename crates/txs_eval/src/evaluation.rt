@@ -17,8 +17,10 @@ use std::alloc::Global;
 use txs_terms::{Binary, Defs, Expr, Exprs, Unary};
 use txs_values::{Value, Values};
 
+/// How many nodes of an expression may stand within one another.
 const HEIGHT_LIMIT: u32 = 1_000;
 
+/// How many nodes may be entered.
 const NODE_LIMIT: u32 = 1_000_000;
 
 /// The value of an expression, slot k of which is the value k; or the fault that its evaluation meets first, by the limits of height and nodes among them.
@@ -29,14 +31,14 @@ pub fn eval(alloc: Global, defs: &Defs, expr: &Expr, values: &Values) -> Result<
     ensures typed { (t : TheType) → IsTyped (definitions_of defs.now) (values_of values.now) (expr_of expr.now) t
         → IfOk result (λ v. HasType defs.now.0 (value_of v) t) }
 {
-    match within_limits(alloc, defs, values.as_slice(), expr) {
+    match from_the_top(alloc, defs, values.as_slice(), expr) {
         Ok((value, _)) => Ok(value),
         Err(stop) => Err(fault_of(stop)),
     }
 }
 
-/// The value of an expression, slot k of which is the value k, with the nodes that were entered; or what stopped its evaluation, by the limits of height and nodes among them.
-fn within_limits(
+/// Evaluation with no level and no node entered yet.
+fn from_the_top(
     alloc: Global,
     defs: &Defs,
     values: &[Value],

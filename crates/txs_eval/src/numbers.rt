@@ -39,8 +39,8 @@ fn quotient(x: i128, y: i128) -> Result<Value, Stop>
     }
 }
 
-/// By -1 nothing is left, also where the quotient is no Int.
-fn rest(x: i128, y: i128) -> Result<Value, Stop>
+/// What division leaves; by -1 nothing, also where the quotient is no Int.
+fn remainder_of(x: i128, y: i128) -> Result<Value, Stop>
     ensures value { Comes result (divided remainder x y) }
     ensures memory { result ≢ Err Stop.NoMemory }
 {
@@ -63,7 +63,7 @@ pub fn on_numbers(operator: Binary, x: i128, y: i128) -> Result<Value, Stop>
         Binary::Minus => whole(x.checked_sub(y)),
         Binary::Times => whole(x.checked_mul(y)),
         Binary::Divide => quotient(x, y),
-        Binary::Remainder => rest(x, y),
+        Binary::Remainder => remainder_of(x, y),
         Binary::LessThan => Ok(Value::Bool(x < y)),
         Binary::AtMost => Ok(Value::Bool(x <= y)),
         Binary::MoreThan => Ok(Value::Bool(y < x)),

@@ -70,7 +70,7 @@ fn selected(alloc: Global, fields: &[Value], field: u32) -> Result<Value, Stop>
 {
     match fields.get(field as usize) {
         Some(value) => Ok(copy_value(alloc, value)?),
-        None => Err(Stop::Selector),
+        None => Err(Stop::Wrong),
     }
 }
 

@@ -9,21 +9,17 @@ use crate::fault::Stop;
 use crate::numbers::whole;
 use std::alloc::Global;
 use txs_terms::Binary;
-use txs_values::{Text, Value, height_of, size_of};
-
-const SIZE_LIMIT: u64 = 16_384;
-
-const HEIGHT_LIMIT: u64 = 1_000;
+use txs_values::{Text, VALUE_HEIGHT_LIMIT, VALUE_SIZE_LIMIT, Value, height_of, size_of};
 
 /// The value, where it is neither too large nor too high.
 pub fn sized(value: Value) -> Result<Value, Stop>
     ensures value { Comes result (spec.sized (value_of value)) }
     ensures memory { result ≢ Err Stop.NoMemory }
 {
-    if size_of(&value) > SIZE_LIMIT {
+    if size_of(&value) > VALUE_SIZE_LIMIT {
         return Err(Stop::Size);
     }
-    if height_of(&value) > HEIGHT_LIMIT {
+    if height_of(&value) > VALUE_HEIGHT_LIMIT {
         return Err(Stop::Size);
     }
     Ok(value)

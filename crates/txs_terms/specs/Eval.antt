@@ -51,8 +51,9 @@ in_range x = cond (fits x) (fine (num x)) (broken range)
 abbrev pub sized : Value → Outcome
 sized v = cond (ltb value_size_limit (size v)) (broken big) (cond (ltb value_height_limit (height v)) (broken big) (fine v))
 
+-- the field that a selector asks for
 abbrev pub selected : Option Value → Outcome
-selected None = broken selector
+selected None = broken wrong
 selected (Some v) = fine v
 
 abbrev pub spelled : Option Value → Outcome

@@ -6,7 +6,7 @@ use std::test::Fail;
 const COUNTING: &str = "FUNCDEF f (n :: Int) :: Int ::= IF n == 0 THEN 0 ELSE f(n - 1) FI ENDDEF";
 
 /// Expressions over a function, and what is said of them.
-const ROWS: [(&str, &str); 30] = [
+const ROWS: [(&str, &str); 32] = [
     ("7 / -2", "-3"),
     ("-7 % 2", "-1"),
     ("1 / 0", "Division"),
@@ -34,6 +34,8 @@ const ROWS: [(&str, &str); 30] = [
     ("False /\\ 1 / 0 == 1", "False"),
     ("True \\/ 1 / 0 == 1", "True"),
     ("at(\"abc\", 3)", "Selector"),
+    ("at(\"abc\", -1)", "Selector"),
+    ("at(\"abc\", 2)", "\"c\""),
     ("toString(3) ++ \"x\"", "\"3x\""),
     ("len(toString(f(3)) ++ at(\"aé\", 1))", "2"),
     ("not(1)", "Mismatch 4"),
@@ -96,6 +98,25 @@ fn doubled(rt: HostRuntime) -> Result<(), Fail> {
     let alloc = rt.alloc();
     let defs = definitions(alloc, DOUBLING)?;
     for (text, wanted) in DOUBLED {
+        assert_eq!(rt; said(alloc, &defs, text)?.as_str(), wanted, "{text}");
+    }
+    Ok(())
+}
+
+const ADDING: &str = "FUNCDEF fib (n :: Int) :: Int ::= IF n < 2 THEN n ELSE fib(n - 1) + fib(n - 2) FI ENDDEF";
+
+/// Expressions that enter 10,969 nodes, 834,613 and 1,350,439, and what is said of them: `fib(n)` enters 18 F - 11, where F is the Fibonacci number behind its value.
+const ADDED: [(&str, &str); 3] = [
+    ("fib(14)", "377"),
+    ("fib(23)", "28657"),
+    ("fib(24)", "Long"),
+];
+
+#[test]
+fn added(rt: HostRuntime) -> Result<(), Fail> {
+    let alloc = rt.alloc();
+    let defs = definitions(alloc, ADDING)?;
+    for (text, wanted) in ADDED {
         assert_eq!(rt; said(alloc, &defs, text)?.as_str(), wanted, "{text}");
     }
     Ok(())

@@ -1,8 +1,8 @@
 -- The offences of type names and of defaults.
-use Rattle.std.proofs.Common.{◌≡◌, ◌⊎◌, inl, inr, ◌<◌, ◌+◌, ℕ, zero, suc, true, false, ap, sym, subst, ◌∙◌, List, [], ◌∷◌, ◌++◌, length, take, get_or, slice_get, option_map, Option, Some, None, refl, arith, true≢false}
+use Rattle.std.proofs.Common.{◌≡◌, ◌⊎◌, inl, inr, ◌<◌, ◌+◌, ℕ, zero, suc, true, false, ap, sym, subst, ◌∙◌, List, [], ◌∷◌, ◌++◌, length, map, take, get_or, slice_get, option_map, Option, Some, None, refl, arith, true≢false}
 use Rattle.txs_values.specs.Value.{Value, Table, named, size, height, value_size_limit, value_height_limit}
-use Rattle.txs_values.specs.Default.{default_if}
-use Rattle.txs_values.specs.Choices.{extent_of}
+use Rattle.txs_values.specs.Default.{default_if, ranked, rounds}
+use Rattle.txs_values.specs.Choices.{extent_of, extents_of}
 use Rattle.txs_values.specs.declared.default.Extent.{Extent}
 use Rattle.txs_syntax.specs.declared.ast.Name.{Name}
 use Rattle.txs_syntax.specs.declared.file.ConDef.{ConDef}
@@ -69,6 +69,18 @@ fields_more types cs i c f g r below is p q l =
     (any_least types (types_of_fields (take i cs)) (types_used c.fields.decls) f g r l p q)))
 
 -- ---- defaults
+
+-- where it stands in the list of them
+extent_among : (os : List (Option Value)) (k : ℕ) (r : Option Extent) → r ≡ elim (slice_get (map (option_map extent_of) os) k) [ None ↦ None | Some e ↦ e ] → r ≡ option_map extent_of (ranked os (named k))
+extent_among [] k r h = h
+extent_among (None ∷ os) zero r h = h
+extent_among (Some v ∷ os) zero r h = h
+extent_among (o ∷ os) (suc k) r h = extent_among os k r h
+
+pub extent_found : (table : Table) (extents : List (Option Extent)) (k : ℕ) (r : Option Extent) → extents ≡ extents_of table → r ≡ elim (slice_get extents k) [ None ↦ None | Some e ↦ e ]
+    → r ≡ option_map extent_of (default_if table (named k))
+extent_found table extents k r e h =
+    extent_among (rounds (length table) table) k r (h ∙ ap (λ (es : List (Option Extent)). elim (slice_get es k) [ None ↦ None | Some e ↦ e ]) e)
 
 -- the default of this extent
 pub default_with : (o : Option Value) (e : Extent) → Some e ≡ option_map extent_of o → (v : Value) × (o ≡ Some v) × (e ≡ extent_of v)

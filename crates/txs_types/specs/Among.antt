@@ -29,10 +29,6 @@ AmongDefs At ds = Among (λ (_ : ℕ). At) ds
 abbrev pub IsTwice : List (List ℕ) → List Name → Offence → Type 0
 IsTwice xs ns o = (at : ℕ) × (o ≡ twice at) × Repeats xs ns at
 
--- a type name has no definition
-abbrev pub IsUndefined : List Name → Name → Offence → Type 0
-IsUndefined types n o = (is_undefined types n ≡ true) × (o ≡ unknown n.at)
-
 -- one of these type names has no definition
 abbrev pub AnyUndefined : List Name → List Name → Offence → Type 0
 AnyUndefined types ns o = (j : ℕ) × (n : Name) × (slice_get ns j ≡ Some n) × (is_undefined types n ≡ true) × (o ≡ unknown n.at)

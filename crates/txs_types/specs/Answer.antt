@@ -1,5 +1,5 @@
 -- What a result of the program says of offences.
-use Rattle.std.specs.Prelude.{◌≡◌, ◌≢◌, ℕ, List, [], Option, Some, None, slice_get}
+use Rattle.std.specs.Prelude.{◌≡◌, ◌≢◌, ℕ, List, [], Option, Some, None, IfSome, slice_get}
 use Rattle.txs_values.specs.Value.{Ty, Value, HasType, HaveTypes}
 use Rattle.txs_terms.specs.Expr.{Expr, put, filled}
 use Rattle.txs_terms.specs.Eval.{eval, got, bad, wrong}
@@ -21,13 +21,7 @@ offence_of fault.NoMemory = None
 
 -- of the offences that stand, the fault names the one that decides; want of memory may be told of any
 abbrev pub Told : TypeFault → (Offence → Type 0) → Type 0
-Told (fault.Twice at) Stands = Decides Stands (twice at)
-Told (fault.Unknown at) Stands = Decides Stands (unknown at)
-Told (fault.Arity at) Stands = Decides Stands (arity at)
-Told (fault.Mismatch at) Stands = Decides Stands (mismatch at)
-Told (fault.EmptyType at) Stands = Decides Stands (empty_type at)
-Told (fault.BigType at) Stands = Decides Stands (big_type at)
-Told fault.NoMemory Stands = Unit {0}
+Told f Stands = IfSome (offence_of f) (Decides Stands)
 
 -- evaluated with values of these types, the expression meets no value of a wrong type, and what it gives is of its type
 pub record IsSafe (d : Definitions) (types : List Ty) (e : Expr) (t : Ty) : Type 0 where

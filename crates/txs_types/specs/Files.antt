@@ -226,6 +226,14 @@ names_of (t ∷ ts) = record { at = 0; text = t.name } ∷ names_of ts
 abbrev pub query_scope : Definitions → DeclList → Scope
 query_scope d list = scope_over d (variables_of (names_of d.table) list)
 
+-- the types of the declared variables
+abbrev pub declared_types : Definitions → DeclList → List Ty
+declared_types d list = field_types (variables_of (names_of d.table) list)
+
+-- over definitions and declared variables the tree means this expression, of this type
+abbrev pub QueryMeans : Definitions → DeclList → Option Ty → Ast → Expr → Ty → Type 0
+QueryMeans d list want tree e t = Elaborates (query_scope d list) want tree e t
+
 -- the offence stands in a query over definitions: in its declarations, or in its expression
 pub data QueryOffends (d : Definitions) (list : DeclList) (want : Option Ty) (tree : Ast) : Offence → Type 0 where
   twice_declared : {at : ℕ} → Repeats [] (names_in list.decls) at → QueryOffends d list want tree (twice at)

@@ -68,7 +68,8 @@ pub record FileHasInts (file : File) : Type 0 where
 abbrev pub FileHasNames : File → Type 0
 FileHasNames file = (c : ℕ) (p : Place) → place_of (table_of file) c ≡ Some p → IsName p.constructor.name
 
--- what a file without an offence means is well typed, each of its types has a default, and no two constructors have one name
+-- where constructors are called by names and numbers are in range: what a file without an offence means is well typed, each of its types
+-- has a default, and no two constructors have one name
 abbrev pub MeantIsDefined : Type 0
 MeantIsDefined =
     (file : File) (d : Definitions) → FileHasNames file → FileHasInts file → ((o : Offence) → FileOffends file o → ⊥) → IsMeant file d → AreDefined d

@@ -2,7 +2,7 @@ ghost use Rattle.std.specs.Prelude.{◌≡◌, ◌+◌, IfOk};
 
 use txs_values::NoMemory;
 
-/// The number that what stands at this place goes by. Want of memory is answered where it is not below 2^32.
+/// A place as a number. Want of memory is answered where it is not below 2^32.
 pub fn number_of(place: usize) -> Result<u32, NoMemory>
     ensures { IfOk result (λ n. n ≡ place) }
 {

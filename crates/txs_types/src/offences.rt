@@ -1,4 +1,7 @@
-ghost use Rattle.std.specs.Prelude.{◌≡◌, IfOk, IsTrue, ◌↔◌, ◌⊎◌, ◌<◌, []};
+ghost use Rattle.std.specs.Prelude.{ℕ, ◌≡◌, IfOk, IsTrue, ◌↔◌, ◌⊎◌, ◌<◌, [], option_map};
+ghost use Rattle.txs_values.specs.Value.{Table, named};
+ghost use Rattle.txs_values.specs.Default.{default_if};
+ghost use Rattle.txs_values.specs.Choices.{extent_of, extents_of};
 ghost use Rattle.txs_types.specs.Files as files;
 ghost use Rattle.txs_types.specs.Told.{Finds};
 ghost use Rattle.txs_types.specs.Among.{Among, AmongDefs, IsTwice, AnyUndefined, TwiceIn, UnknownIn, BadDefault};
@@ -9,11 +12,10 @@ use crate::fault::TypeFault;
 use crate::global_names::{built_ins, texts_of};
 use crate::least::least;
 use crate::names::repeated;
-use crate::numbers::number_of;
 use sqlite_items::Items;
 use std::alloc::Global;
 use txs_syntax::{ConDef, DeclList, Def, Name};
-use txs_values::{Extent, NoMemory, Text, Ty, TypeTable, default_extent};
+use txs_values::{Extent, NoMemory, Text, TypeTable, VALUE_HEIGHT_LIMIT, VALUE_SIZE_LIMIT, default_extents};
 
 fn built_in_types(alloc: Global) -> Result<Items<Text>, NoMemory>
     ensures { IfOk result (λ ts. ts ≡ files.built_in_types) }
@@ -110,32 +112,32 @@ pub fn unknown_type(types: &[Name], defs: &[Def]) -> Option<TypeFault>
     fault
 }
 
-/// The greatest size and height of a default.
-const SIZE_LIMIT: u64 = 16_384;
-
-const HEIGHT_LIMIT: u64 = 1_000;
-
 fn is_big(extent: Extent) -> bool
     ensures { IsTrue result ↔ ((16384 < extent.size) ⊎ (1000 < extent.height)) }
 {
-    extent.size > SIZE_LIMIT || extent.height > HEIGHT_LIMIT
+    extent.size > VALUE_SIZE_LIMIT || extent.height > VALUE_HEIGHT_LIMIT
 }
 
-fn bad_default(
-    alloc: Global,
-    table: &TypeTable,
-    number: u32,
-    name: &Name,
-) -> Result<Option<TypeFault>, NoMemory>
-    ensures { IfOk result (λ f. Finds f (BadDefault table.now number name.now)) }
+fn extent_at(extents: &[Option<Extent>], place: usize) -> Option<Extent>
+    ensures { (table : Table) → extents.now ≡ extents_of table → result ≡ option_map extent_of (default_if table (named place)) }
 {
-    match default_extent(alloc, table, Ty::Named(number))? {
-        None => Ok(Some(TypeFault::EmptyType { at: name.at })),
+    match extents.get(place) {
+        Some(extent) => *extent,
+        None => None,
+    }
+}
+
+/// The fault of a type whose default is of this extent.
+fn bad_default(extent: Option<Extent>, name: &Name) -> Option<TypeFault>
+    ensures { (table : Table) (number : ℕ) → extent ≡ option_map extent_of (default_if table (named number)) → Finds result (BadDefault table number name.now) }
+{
+    match extent {
+        None => Some(TypeFault::EmptyType { at: name.at }),
         Some(extent) => {
             if is_big(extent) {
-                Ok(Some(TypeFault::BigType { at: name.at }))
+                Some(TypeFault::BigType { at: name.at })
             } else {
-                Ok(None)
+                None
             }
         }
     }
@@ -149,10 +151,11 @@ pub fn bad_type(
 ) -> Result<Option<TypeFault>, NoMemory>
     ensures { IfOk result (λ f. Finds f (Among (BadDefault table.now) types.now)) }
 {
+    let extents = default_extents(alloc, table)?;
     let mut fault = None;
     for (place, name) in types.iter().enumerate() {
-        let number = number_of(place)?;
-        fault = least(fault, bad_default(alloc, table, number, name)?);
+        let extent = extent_at(extents.as_slice(), place);
+        fault = least(fault, bad_default(extent, name));
     }
     Ok(fault)
 }

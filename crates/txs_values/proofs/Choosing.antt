@@ -46,7 +46,7 @@ nothing-more all c (t ∷ ts) (None ∷ os) h f =
 
 -- ---- extents
 
-extent-choice : (v : Value) → (choice_of v).extent ≡ extent_of v
+pub extent-choice : (v : Value) → (choice_of v).extent ≡ extent_of v
 extent-choice (num x) = refl
 extent-choice (bool b) = refl
 extent-choice (text bs) = refl

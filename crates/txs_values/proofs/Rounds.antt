@@ -2,8 +2,8 @@
 use Rattle.std.proofs.Common.{◌≡◌, ℕ, zero, suc, ◌+◌, ◌-◌, ◌<◌, ◌≤◌, ◌&&◌, true, false, cond, is_some, is_none, List, [], ◌∷◌, ◌++◌, length, map, take, drop, get_or, Option, Some, None, Result, Ok, Err, IfOk, IfSome, ◌≢◌, refl, sym, ap, ◌∙◌, arith, option_map}
 use Rattle.std.proofs.lemmas.List.{length-map, drop_more, take_more, take_all, map-append}
 use Rattle.txs_values.proofs.Building.{built-ranked, rounds-made}
-use Rattle.txs_values.proofs.Choosing.{rounds-end, rounds-ranked, extent-ranked, choice_rounds-length, nothing-more}
-use Rattle.txs_values.specs.Choices.{extent_of, extent_chosen, next_choices, choice_rounds, finds_nothing, chosen_in, made_by, built_by, built}
+use Rattle.txs_values.proofs.Choosing.{rounds-end, rounds-ranked, extent-ranked, extent-choice, choice_rounds-length, nothing-more}
+use Rattle.txs_values.specs.Choices.{extent_of, extents_of, choices_of, extent_chosen, next_choices, choice_rounds, finds_nothing, chosen_in, made_by, built_by, built}
 use Rattle.txs_values.specs.Default.{all_defaults, rounds, default_if}
 use Rattle.txs_values.specs.TableView.{field_of, cons_of, type_of, table_of}
 use Rattle.txs_values.specs.Value.{Ty, named, Value, cons, packed, Table, Field, place_of}
@@ -48,6 +48,25 @@ extent-default defs table found t r d f e =
     let g : found ≡ choice_rounds (length (table_of defs)) (table_of defs) = f ∙ ap (λ (q : ℕ). choice_rounds q (table_of defs)) n in
     e ∙ (ap (λ (q : List (Option rust_choice.Choice)). extent_chosen q t) (g ∙ rounds-ranked (length (table_of defs)) (table_of defs))
     ∙ (extent-ranked (rounds (length (table_of defs)) (table_of defs)) t ∙ ap (λ (q : Table). option_map extent_of (default_if q t)) d))
+
+extents-ranked : (os : List (Option Value)) → map (option_map (λ (c : rust_choice.Choice). c.extent)) (choices_of os) ≡ map (option_map extent_of) os
+extents-ranked [] = refl
+extents-ranked (None ∷ os) = ap (λ (q : List (Option rust_extent.Extent)). None ∷ q) (extents-ranked os)
+extents-ranked (Some v ∷ os) =
+    ap (λ (e : rust_extent.Extent). Some e ∷ map (option_map (λ (c : rust_choice.Choice). c.extent)) (choices_of os)) (extent-choice v)
+    ∙ ap (λ (q : List (Option rust_extent.Extent)). Some (extent_of v) ∷ q) (extents-ranked os)
+
+extents-default : (defs : List rust_type.TypeDef) (table : Table) (found : List (Option rust_choice.Choice)) → table_of defs ≡ table
+    → found ≡ choice_rounds (length defs) (table_of defs) → map (option_map (λ (c : rust_choice.Choice). c.extent)) found ≡ extents_of table
+extents-default defs table found d f =
+    let m : length defs ≡ length table = sym (length-map defs type_of) ∙ ap length d in
+    let g : found ≡ choice_rounds (length table) table = f ∙ (ap (λ (q : ℕ). choice_rounds q (table_of defs)) m ∙ ap (choice_rounds (length table)) d) in
+    ap (map (option_map (λ (c : rust_choice.Choice). c.extent))) (g ∙ rounds-ranked (length table) table) ∙ extents-ranked (rounds (length table) table)
+
+pub extents-ok : {E : Type 0} (defs : List rust_type.TypeDef) (table : Table) (found : List (Option rust_choice.Choice)) (r : Result (List (Option rust_extent.Extent)) E) → table_of defs ≡ table
+    → found ≡ choice_rounds (length defs) (table_of defs) → IfOk r (λ es. es ≡ map (option_map (λ (c : rust_choice.Choice). c.extent)) found) → IfOk r (λ es. es ≡ extents_of table)
+extents-ok defs table found (Ok es) d f h = h ∙ extents-default defs table found d f
+extents-ok defs table found (Err e) d f h = h
 
 pub built-default : (defs : List rust_type.TypeDef) (table : Table) (found : List (Option rust_choice.Choice)) (t : Ty) (n : ℕ) (v : Value) → table_of defs ≡ table
     → found ≡ choice_rounds (length defs) (table_of defs) → built n table found t ≡ Some v → default_if table t ≡ Some v

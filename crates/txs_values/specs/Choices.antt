@@ -1,6 +1,6 @@
 -- The default of a type by its constructor, with how large and high the default is.
 use Rattle.std.specs.Prelude.{ℕ, zero, suc, ◌+◌, pos, Bool, true, false, cond, ◌&&◌, is_some, is_none, min, max, List, [], ◌∷◌, length, map, Option, Some, None, slice_get, option_map}
-use Rattle.txs_values.specs.Default.{all_defaults}
+use Rattle.txs_values.specs.Default.{all_defaults, rounds}
 use Rattle.txs_values.specs.Measure.{u64_max}
 use Rattle.txs_values.specs.Value.{Ty, Value, Field, Constructor, Table, Place, place_of, packed, whole, truth, string, named, num, bool, text, cons, size, height}
 use Rattle.txs_values.specs.declared.default.Choice as rust_choice
@@ -9,6 +9,10 @@ use Rattle.txs_values.specs.declared.default.Extent as rust_extent
 -- how large and high a value is, up to 2^64 - 1
 abbrev pub extent_of : Value → rust_extent.Extent
 extent_of v = record { size = min (size v) u64_max; height = min (height v) u64_max }
+
+-- how large and high the default of each type is, where it has one
+abbrev pub extents_of : Table → List (Option rust_extent.Extent)
+extents_of table = map (option_map extent_of) (rounds (length table) table)
 
 -- the constructor of a default, and how large and high that is
 abbrev pub choice_of : Value → rust_choice.Choice

@@ -1,11 +1,11 @@
 ghost use Rattle.std.specs.Prelude.{◌≡◌, ◌≢◌, ◌≤◌, ◌+◌, length, List, map, option_map, IfOk, IfSome, Some, None, is_none, is_some, ◌&&◌};
 ghost use Rattle.txs_values.specs.Choices;
-ghost use Rattle.txs_values.specs.Choices.{extent_of, extent_chosen, first_chosen, next_choices, choice_rounds, chosen_in, built};
+ghost use Rattle.txs_values.specs.Choices.{extent_of, extents_of, extent_chosen, first_chosen, next_choices, choice_rounds, chosen_in, built};
 ghost use Rattle.txs_values.specs.Default.{default_if};
 ghost use Rattle.txs_values.specs.TableView.{field_of, conses_of, table_of, constructor_count, constructor_limit};
 ghost use Rattle.txs_values.specs.View.{ty_of, value_of};
 
-use crate::{ConsDef, FieldDef, NoMemory, Text, Ty, TypeDef, TypeTable, Value};
+use crate::{ConsDef, FieldDef, NoMemory, Text, Ty, TypeDef, TypeTable, VALUE_HEIGHT_LIMIT, VALUE_SIZE_LIMIT, Value};
 use sqlite_items::Items;
 use std::alloc::Global;
 
@@ -24,11 +24,6 @@ struct Choice {
 }
 
 type Choices = Items<Option<Choice>>;
-
-/// The greatest size and height of a default that is made.
-const SIZE_LIMIT: u64 = 16_384;
-
-const HEIGHT_LIMIT: u32 = 1_000;
 
 fn extent_chosen(found: &[Option<Choice>], ty: Ty) -> Option<Extent>
     ensures { result ≡ extent_chosen found.now (ty_of ty) }
@@ -205,10 +200,10 @@ pub fn default_of(alloc: Global, table: &TypeTable, ty: Ty) -> Result<Value, NoM
     match extent_chosen(found.as_slice(), ty) {
         None => unreachable!(),
         Some(extent) => {
-            if extent.size > SIZE_LIMIT {
+            if extent.size > VALUE_SIZE_LIMIT {
                 return Err(NoMemory);
             }
-            build(alloc, table, found.as_slice(), ty, HEIGHT_LIMIT)
+            build(alloc, table, found.as_slice(), ty, VALUE_HEIGHT_LIMIT as u32)
         }
     }
 }
@@ -220,6 +215,36 @@ pub fn default_extent(alloc: Global, table: &TypeTable, ty: Ty) -> Result<Option
 {
     let found = choice_rounds(alloc, table.as_slice())?;
     Ok(extent_chosen(found.as_slice(), ty))
+}
+
+fn extent_in(choice: &Option<Choice>) -> Option<Extent>
+    ensures { result ≡ option_map (λ c. c.extent) choice.now }
+{
+    match choice {
+        Some(choice) => Some(choice.extent),
+        None => None,
+    }
+}
+
+fn extents_in(alloc: Global, found: &[Option<Choice>]) -> Result<Items<Option<Extent>>, NoMemory>
+    ensures { IfOk result (λ es. es ≡ map (option_map (λ c. c.extent)) found.now) }
+{
+    let mut extents = Items::new(alloc);
+    for choice in found {
+        extents.push(extent_in(choice))?;
+    }
+    Ok(extents)
+}
+
+/// How large and high the default of each type is, where it has one, in the order of the types.
+pub fn default_extents(
+    alloc: Global,
+    table: &TypeTable,
+) -> Result<Items<Option<Extent>>, NoMemory>
+    ensures { IfOk result (λ es. es ≡ extents_of table.now) }
+{
+    let found = choice_rounds(alloc, table.as_slice())?;
+    extents_in(alloc, found.as_slice())
 }
 
 #[cfg(test)]
@@ -354,6 +379,7 @@ mod tests {
     fn measures_defaults(rt: HostRuntime) -> Result<(), Fail> {
         let alloc = rt.alloc();
         let types = pairs(alloc)?;
+        let extents = default_extents(alloc, &types)?;
         let table = [
             (0, None),
             (1, Some((3, 2))),
@@ -367,6 +393,8 @@ mod tests {
         for (k, want) in table {
             let extent = default_extent(alloc, &types, Ty::Named(k))?;
             assert_eq!(rt; extent.map(|e| (e.size, e.height)), want);
+            let listed = extents.as_slice()[k as usize];
+            assert_eq!(rt; listed.map(|e| (e.size, e.height)), want);
         }
         let largest = made(alloc, &types, Ty::Named(13))?;
         assert_eq!(rt; largest, Some((16383, 14)));

@@ -5,6 +5,12 @@ ghost use Rattle.txs_values.specs.View.{value_of};
 
 use crate::Value;
 
+/// The greatest size of a value.
+pub const VALUE_SIZE_LIMIT: u64 = 16_384;
+
+/// The greatest height of a value.
+pub const VALUE_HEIGHT_LIMIT: u64 = 1_000;
+
 /// A value's nodes, with the bytes of its texts; 2^64 - 1 where there are more.
 pub fn size_of(value: &Value) -> u64
     ensures { result ≡ min (size (value_of value.now)) u64_max }

@@ -9,7 +9,7 @@ ghost use Rattle.txs_values.specs.Value as value;
 ghost use Rattle.txs_values.specs.View.{value_of, ty_of};
 
 use crate::reading::{Kind, Stop, lone};
-use crate::{Ty, TypeTable, Value, size_of};
+use crate::{Ty, TypeTable, VALUE_SIZE_LIMIT, Value, size_of};
 use std::alloc::Global;
 use thiserror::Error;
 
@@ -29,8 +29,6 @@ pub enum ReadValueFault {
     #[error("memory ran out: free some and try again")]
     NoMemory,
 }
-
-const VALUE_SIZE_LIMIT: u64 = 16_384;
 
 /// The value of this type that the bytes spell.
 pub fn read_value(

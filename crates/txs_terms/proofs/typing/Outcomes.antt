@@ -43,6 +43,19 @@ typed_field table (and_value w vs) (s ∷ ts) zero t v h a b =
 typed_field table (and_value w vs) (s ∷ ts) (suc j) t v h a b =
     typed_field table vs ts j t v (and_parts (has_type table w s) (has_fields table vs (Some ts)) h).1 a b
 
+there_is_one : (table : Table) (vs : Values) (ts : List Ty) (j : ℕ) (t : Ty) → has_fields table vs (Some ts) ≡ true
+    → slice_get ts j ≡ Some t → slice_get (listed vs) j ≡ None → ⊥
+there_is_one table no_value [] j t h a b = none j a
+  where
+    none : (j : ℕ) → slice_get [] j ≡ Some t → ⊥
+    none zero q = cc
+    none (suc j) q = cc
+there_is_one table no_value (s ∷ ts) j t h a b = cc
+there_is_one table (and_value w vs) [] j t h a b = cc
+there_is_one table (and_value w vs) (s ∷ ts) zero t h a b = cc
+there_is_one table (and_value w vs) (s ∷ ts) (suc j) t h a b =
+    there_is_one table vs ts j t (and_parts (has_type table w s) (has_fields table vs (Some ts)) h).1 a b
+
 pub packed_typed : (table : Table) (vs : List Value) (ts : List Ty) → HaveTypes table vs ts → has_fields table (packed vs) (Some ts) ≡ true
 packed_typed table [] [] h = refl
 packed_typed table [] (t ∷ ts) h = absurd h
@@ -82,13 +95,13 @@ module _ (table : Table) where
   text_fine truth bs = spelled_fine truth (read_text table truth bs) (read_typed table truth bs)
   text_fine (named k) bs = spelled_fine (named k) (read_text table (named k) bs) (read_typed table (named k) bs)
 
-  -- two fields that need not be as many as the types: what is there has its type
+  -- a field stands at each type, and has that type
   field_fine : (vs : Values) (ts : List Ty) (j : ℕ) (t : Ty) → has_fields table vs (Some ts) ≡ true → slice_get ts j ≡ Some t
       → IsFine t (selected (slice_get (listed vs) j))
   field_fine vs ts j t h s = by (slice_get (listed vs) j) refl
     where
       by : (o : Option Value) → slice_get (listed vs) j ≡ o → IsFine t (selected o)
-      by None e = tt
+      by None e = there_is_one table vs ts j t h s e
       by (Some v) e = typed_field table vs ts j t v h s e
 
   select_fine : (c j k : ℕ) (t : Ty) (x : Constructor) (d : ℕ) (vs : Values) (b : Bool) → eqb c d ≡ b

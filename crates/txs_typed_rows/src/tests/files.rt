@@ -99,3 +99,29 @@ fn big_defaults(rt: HostRuntime) -> Result<(), Fail> {
     }
     Ok(())
 }
+
+/// Types T0, T1 and so on: T0 has a number, and each other one a value of the type before it. The default of Tk has height k + 2.
+fn chain(alloc: Global, last: u32) -> Result<String, Fail> {
+    let mut text = String::from_str(alloc, "TYPEDEF T0 ::= C0 { a0 :: Int } ENDDEF")?;
+    for k in 1..=last {
+        let before = k - 1;
+        write!(
+            text,
+            " TYPEDEF T{k} ::= C{k} {{ a{k} :: T{before} }} ENDDEF"
+        )?;
+    }
+    Ok(text)
+}
+
+/// The last of a chain of types, and what is said of all: heights 1,000 and 1,001.
+const CHAINS: [(u32, &str); 2] = [(998, "typed"), (999, "BigType 45521")];
+
+#[test]
+fn high_defaults(rt: HostRuntime) -> Result<(), Fail> {
+    let alloc = rt.alloc();
+    for (last, wanted) in CHAINS {
+        let file = chain(alloc, last)?;
+        assert_eq!(rt; said_of_file(alloc, file.as_str())?.as_str(), wanted, "T{last}");
+    }
+    Ok(())
+}

@@ -3,14 +3,11 @@ use Rattle.txs_types.proofs.Offending.{empty_stands, big_stands, no_bad}
 use Rattle.txs_types.proofs.offences.bad_default.Goals as goal
 
 pub returns-in-None : goal.returns-in-None
-returns-in-None c = empty_stands c.args.table.now c.args.number c.args.name.now (sym c.in-None.is ∙ c.in_ok-default_extent.ensures.extent)
+returns-in-None c = λ table k h. empty_stands table k c.args.name.now (sym c.in-None.is ∙ h)
 
 pub returns-then-is_big : goal.returns-then-is_big
-returns-then-is_big c =
-    big_stands c.args.table.now c.args.number c.args.name.now c.in-Some.extent (sym c.in-Some.is ∙ c.in_ok-default_extent.ensures.extent)
-    (c.is_big.ensures.0 c.if-is_big.true)
+returns-then-is_big c = λ table k h. big_stands table k c.args.name.now c.in-Some.extent (sym c.in-Some.is ∙ h) (c.is_big.ensures.0 c.if-is_big.true)
 
 pub returns-else-is_big : goal.returns-else-is_big
-returns-else-is_big c =
-    no_bad c.args.table.now c.args.number c.args.name.now c.in-Some.extent (sym c.in-Some.is ∙ c.in_ok-default_extent.ensures.extent)
-    (λ b. true≢false (sym (c.is_big.ensures.1 b) ∙ c.if-is_big.false))
+returns-else-is_big c = λ table k h.
+    no_bad table k c.args.name.now c.in-Some.extent (sym c.in-Some.is ∙ h) (λ b. true≢false (sym (c.is_big.ensures.1 b) ∙ c.if-is_big.false))
