@@ -103,7 +103,8 @@ fn doubled(rt: HostRuntime) -> Result<(), Fail> {
     Ok(())
 }
 
-const ADDING: &str = "FUNCDEF fib (n :: Int) :: Int ::= IF n < 2 THEN n ELSE fib(n - 1) + fib(n - 2) FI ENDDEF";
+const ADDING: &str =
+    "FUNCDEF fib (n :: Int) :: Int ::= IF n < 2 THEN n ELSE fib(n - 1) + fib(n - 2) FI ENDDEF";
 
 /// Expressions that enter 10,969 nodes, 834,613 and 1,350,439, and what is said of them: `fib(n)` enters 18 F - 11, where F is the Fibonacci number behind its value.
 const ADDED: [(&str, &str); 3] = [

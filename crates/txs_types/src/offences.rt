@@ -15,7 +15,9 @@ use crate::names::repeated;
 use sqlite_items::Items;
 use std::alloc::Global;
 use txs_syntax::{ConDef, DeclList, Def, Name};
-use txs_values::{Extent, NoMemory, Text, TypeTable, VALUE_HEIGHT_LIMIT, VALUE_SIZE_LIMIT, default_extents};
+use txs_values::{
+    Extent, NoMemory, Text, TypeTable, VALUE_HEIGHT_LIMIT, VALUE_SIZE_LIMIT, default_extents,
+};
 
 fn built_in_types(alloc: Global) -> Result<Items<Text>, NoMemory>
     ensures { IfOk result (λ ts. ts ≡ files.built_in_types) }

@@ -5,7 +5,10 @@ ghost use Rattle.txs_values.specs.Default.{default_if};
 ghost use Rattle.txs_values.specs.TableView.{field_of, conses_of, table_of, constructor_count, constructor_limit};
 ghost use Rattle.txs_values.specs.View.{ty_of, value_of};
 
-use crate::{ConsDef, FieldDef, NoMemory, Text, Ty, TypeDef, TypeTable, VALUE_HEIGHT_LIMIT, VALUE_SIZE_LIMIT, Value};
+use crate::{
+    ConsDef, FieldDef, NoMemory, Text, Ty, TypeDef, TypeTable, VALUE_HEIGHT_LIMIT,
+    VALUE_SIZE_LIMIT, Value,
+};
 use sqlite_items::Items;
 use std::alloc::Global;
 
@@ -203,7 +206,13 @@ pub fn default_of(alloc: Global, table: &TypeTable, ty: Ty) -> Result<Value, NoM
             if extent.size > VALUE_SIZE_LIMIT {
                 return Err(NoMemory);
             }
-            build(alloc, table, found.as_slice(), ty, VALUE_HEIGHT_LIMIT as u32)
+            build(
+                alloc,
+                table,
+                found.as_slice(),
+                ty,
+                VALUE_HEIGHT_LIMIT as u32,
+            )
         }
     }
 }
@@ -237,10 +246,7 @@ fn extents_in(alloc: Global, found: &[Option<Choice>]) -> Result<Items<Option<Ex
 }
 
 /// How large and high the default of each type is, where it has one, in the order of the types.
-pub fn default_extents(
-    alloc: Global,
-    table: &TypeTable,
-) -> Result<Items<Option<Extent>>, NoMemory>
+pub fn default_extents(alloc: Global, table: &TypeTable) -> Result<Items<Option<Extent>>, NoMemory>
     ensures { IfOk result (λ es. es ≡ extents_of table.now) }
 {
     let found = choice_rounds(alloc, table.as_slice())?;

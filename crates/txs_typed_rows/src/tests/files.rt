@@ -121,7 +121,11 @@ fn high_defaults(rt: HostRuntime) -> Result<(), Fail> {
     let alloc = rt.alloc();
     for (last, wanted) in CHAINS {
         let file = chain(alloc, last)?;
-        assert_eq!(rt; said_of_file(alloc, file.as_str())?.as_str(), wanted, "T{last}");
+        assert_eq!(rt;
+            said_of_file(alloc, file.as_str())?.as_str(),
+            wanted,
+            "T{last}"
+        );
     }
     Ok(())
 }

@@ -1,5 +1,4 @@
-use Rattle.std.proofs.Common.{subst, ℕ}
-use Rattle.txs_types.specs.Told.{Finds}
+use Rattle.std.proofs.Common.{◌∙◌}
 use Rattle.txs_types.specs.Among.{BadDefault}
 use Rattle.txs_types.proofs.Deciding.{among_none, among_more, among_end}
 use Rattle.txs_types.proofs.offences.bad_type.Goals as goal
@@ -10,9 +9,9 @@ loop-place-init c = λ o p. among_none (BadDefault c.args.table.now) o p
 pub loop-place-preserved : goal.loop-place-preserved
 loop-place-preserved c =
     let n = c.index-types-place.result in
-    among_more (BadDefault c.args.table.now) c.args.types.now c.loop-place.place n c.loop-place.fault c.in_ok-bad_default.field-0 c.least-fault.result
-    c.loop-place-test.true c.index-types-place.is c.loop-place.invariant
-    (subst (λ (k : ℕ). Finds c.in_ok-bad_default.field-0 (BadDefault c.args.table.now k n)) c.in_ok-number.ensures c.in_ok-bad_default.ensures) c.least-fault.ensures
+    let e = c.extent_at-extent.ensures c.args.table.now (c.as_slice.ensures ∙ c.in_ok-extents.ensures) in
+    among_more (BadDefault c.args.table.now) c.args.types.now c.loop-place.place n c.loop-place.fault c.bad_default.result c.least-fault.result
+    c.loop-place-test.true c.index-types-place.is c.loop-place.invariant (c.bad_default.ensures c.args.table.now c.loop-place.place e) c.least-fault.ensures
 
 pub returns : goal.returns
 returns c = among_end (BadDefault c.args.table.now) c.args.types.now c.loop-place.place c.loop-place.fault c.loop-place-test.false c.loop-place.invariant
