@@ -381,6 +381,13 @@ mod tests {
         }
     }
 
+    fn listed(extents: &[Option<Extent>], number: u32) -> Option<(u64, u64)> {
+        match extents.get(number as usize) {
+            Some(Some(extent)) => Some((extent.size, extent.height)),
+            _ => None,
+        }
+    }
+
     #[test]
     fn measures_defaults(rt: HostRuntime) -> Result<(), Fail> {
         let alloc = rt.alloc();
@@ -399,8 +406,7 @@ mod tests {
         for (k, want) in table {
             let extent = default_extent(alloc, &types, Ty::Named(k))?;
             assert_eq!(rt; extent.map(|e| (e.size, e.height)), want);
-            let listed = extents.as_slice()[k as usize];
-            assert_eq!(rt; listed.map(|e| (e.size, e.height)), want);
+            assert_eq!(rt; listed(extents.as_slice(), k), want);
         }
         let largest = made(alloc, &types, Ty::Named(13))?;
         assert_eq!(rt; largest, Some((16383, 14)));
