@@ -11,8 +11,10 @@ ghost use Rattle.txs_terms.specs.View.{definitions_of, expr_of, exprs_of, gather
 ghost use Rattle.txs_eval.specs.Answer.{Answers, IsTyped, Ends, EndEach, around};
 
 use crate::fault::{EvalFault, Stop, fault_of};
-use crate::found::{built, copied, looked_up, on_equal, on_one, on_two, pushed, truth, unbind};
-use sqlite_items::{Boxed, Items};
+use crate::found::{
+    Found, built, copied, looked_up, on_equal, on_one, on_two, pushed, truth, unbind,
+};
+use sqlite_items::Items;
 use std::alloc::Global;
 use txs_terms::{Binary, Defs, Expr, Exprs, Unary};
 use txs_values::{Value, Values};
@@ -22,6 +24,15 @@ const HEIGHT_LIMIT: u32 = 1_000;
 
 /// How many nodes may be entered.
 const NODE_LIMIT: u32 = 1_000_000;
+
+/// What stands around a node: the definitions, the values of the slots, and how many more levels may be entered.
+#[derive(Clone, Copy)]
+struct Frame<'a> {
+    alloc: Global,
+    defs: &'a Defs,
+    slots: &'a [Value],
+    left: u32,
+}
 
 /// The value of an expression, slot k of which is the value k; or the fault that its evaluation meets first, by the limits of height and nodes among them.
 pub fn eval(alloc: Global, defs: &Defs, expr: &Expr, values: &Values) -> Result<Value, EvalFault>
@@ -38,363 +49,220 @@ pub fn eval(alloc: Global, defs: &Defs, expr: &Expr, values: &Values) -> Result<
 }
 
 /// Evaluation with no level and no node entered yet.
-fn from_the_top(
-    alloc: Global,
-    defs: &Defs,
-    values: &[Value],
-    expr: &Expr,
-) -> Result<(Value, u32), Stop>
+fn from_the_top(alloc: Global, defs: &Defs, values: &[Value], expr: &Expr) -> Found
     ensures { Ends result (run_under (bodies (definitions_of defs.now)) 1000 (around values.now []) (expr_of expr.now) 0) }
 {
-    body(alloc, defs, HEIGHT_LIMIT, values, expr, 0)
+    let frame = Frame {
+        alloc,
+        defs,
+        slots: values,
+        left: HEIGHT_LIMIT,
+    };
+    body(frame, expr, 0)
 }
 
-/// The value of an expression where `left` more levels may be entered and `nodes` nodes were, with the nodes that were entered then.
+/// The value of an expression before which `nodes` nodes were entered, with how many were by its end.
 #[cycle(eval)]
 #[tactic(auto, using(crate::proofs::Steps::run_long, crate::proofs::Steps::run_node))]
-fn value_at(
-    alloc: Global,
-    defs: &Defs,
-    left: u32,
-    slots: &[Value],
-    locals: &mut Values,
-    expr: &Expr,
-    nodes: u32,
-) -> Result<(Value, u32), Stop>
-    ensures value { Ends result (run_under (bodies (definitions_of defs.now)) left (around slots.now locals.old) (expr_of expr.now) nodes) }
+fn value_at(frame: Frame, locals: &mut Values, expr: &Expr, nodes: u32) -> Found
+    ensures value { Ends result (run_under (bodies (definitions_of frame.entry.defs.now)) frame.entry.left (around frame.entry.slots.now locals.old) (expr_of expr.now) nodes) }
     ensures kept { locals.new ≡ locals.old }
 {
-    if left == 0 {
+    if frame.left == 0 {
         return Err(Stop::High);
     }
     if nodes >= NODE_LIMIT {
         return Err(Stop::Long);
     }
-    node(alloc, defs, left - 1, slots, locals, expr, nodes + 1)
+    let below = Frame {
+        left: frame.left - 1,
+        ..frame
+    };
+    node(below, locals, expr, nodes + 1)
 }
 
 /// One node, which is entered.
 #[cycle(eval)]
-fn node(
-    alloc: Global,
-    defs: &Defs,
-    left: u32,
-    slots: &[Value],
-    locals: &mut Values,
-    expr: &Expr,
-    nodes: u32,
-) -> Result<(Value, u32), Stop>
-    ensures value { let d = bodies (definitions_of defs.now) in
-        Ends result (node_under d (run_under d left) (around slots.now locals.old) (expr_of expr.now) nodes) }
+fn node(frame: Frame, locals: &mut Values, expr: &Expr, nodes: u32) -> Found
+    ensures value { let d = bodies (definitions_of frame.entry.defs.now) in
+        Ends result (node_under d (run_under d frame.entry.left) (around frame.entry.slots.now locals.old) (expr_of expr.now) nodes) }
     ensures kept { locals.new ≡ locals.old }
 {
     match expr {
-        Expr::Value(value) => copied(alloc, value, nodes),
-        Expr::Slot(slot) => looked_up(alloc, slots, *slot, nodes),
-        Expr::Local(local) => looked_up(alloc, locals.as_slice(), *local, nodes),
-        Expr::Constant(at) => constant(alloc, defs, left, *at, nodes),
-        Expr::One(operator, a) => one(alloc, defs, left, slots, locals, *operator, a, nodes),
-        Expr::Two(operator, a, b) => two(alloc, defs, left, slots, locals, *operator, a, b, nodes),
-        Expr::Equal(a, b) => equal(alloc, defs, left, slots, locals, a, b, nodes),
-        Expr::And(a, b) => both(alloc, defs, left, slots, locals, a, b, nodes),
-        Expr::Or(a, b) => either(alloc, defs, left, slots, locals, a, b, nodes),
-        Expr::If(c, a, b) => choose(alloc, defs, left, slots, locals, c, a, b, nodes),
-        Expr::Call(function, args) => call(
-            alloc, defs, left, slots, locals, *function, args, nodes,
-        ),
-        Expr::Build(constructor, args) => build(
-            alloc,
-            defs,
-            left,
-            slots,
-            locals,
-            *constructor,
-            args,
-            nodes,
-        ),
-        Expr::Let(_, a, b) => let_in(alloc, defs, left, slots, locals, a, b, nodes),
+        Expr::Value(value) => copied(frame.alloc, value, nodes),
+        Expr::Slot(slot) => looked_up(frame.alloc, frame.slots, *slot, nodes),
+        Expr::Local(local) => looked_up(frame.alloc, locals.as_slice(), *local, nodes),
+        Expr::Constant(at) => constant(frame, *at, nodes),
+        Expr::One(operator, a) => one(frame, locals, *operator, a.get(), nodes),
+        Expr::Two(operator, a, b) => two(frame, locals, *operator, a.get(), b.get(), nodes),
+        Expr::Equal(a, b) => equal(frame, locals, a.get(), b.get(), nodes),
+        Expr::And(a, b) => both(frame, locals, a.get(), b.get(), nodes),
+        Expr::Or(a, b) => either(frame, locals, a.get(), b.get(), nodes),
+        Expr::If(c, a, b) => choose(frame, locals, c.get(), a.get(), b.get(), nodes),
+        Expr::Call(function, args) => call(frame, locals, *function, args, nodes),
+        Expr::Build(constructor, args) => build(frame, locals, *constructor, args, nodes),
+        Expr::Let(_, a, b) => let_in(frame, locals, a.get(), b.get(), nodes),
     }
 }
 
 /// A constant of the file.
 #[cycle(eval)]
-fn constant(
-    alloc: Global,
-    defs: &Defs,
-    left: u32,
-    at: u32,
-    nodes: u32,
-) -> Result<(Value, u32), Stop>
-    ensures { let d = bodies (definitions_of defs.now) in
-        Ends result (node_under d (run_under d left) (around [] []) (of.constant at) nodes) }
+fn constant(frame: Frame, at: u32, nodes: u32) -> Found
+    ensures { let d = bodies (definitions_of frame.entry.defs.now) in
+        Ends result (node_under d (run_under d frame.entry.left) (around [] []) (of.constant at) nodes) }
 {
-    match defs.constants().get(at as usize) {
-        Some(constant) => body(alloc, defs, left, &[], &constant.body, nodes),
+    let inner = Frame {
+        slots: &[],
+        ..frame
+    };
+    match frame.defs.constants().get(at as usize) {
+        Some(constant) => body(inner, &constant.body, nodes),
         None => Err(Stop::Wrong),
     }
 }
 
 /// An operator on one value.
 #[cycle(eval)]
-fn one(
-    alloc: Global,
-    defs: &Defs,
-    left: u32,
-    slots: &[Value],
-    locals: &mut Values,
-    operator: Unary,
-    a: &Boxed<Expr>,
-    nodes: u32,
-) -> Result<(Value, u32), Stop>
-    ensures value { let d = bodies (definitions_of defs.now) in
-        Ends result (node_under d (run_under d left) (around slots.now locals.old) (of.one (unary_of operator) (expr_of a.now)) nodes) }
+fn one(frame: Frame, locals: &mut Values, operator: Unary, a: &Expr, nodes: u32) -> Found
+    ensures value { let d = bodies (definitions_of frame.entry.defs.now) in
+        Ends result (node_under d (run_under d frame.entry.left) (around frame.entry.slots.now locals.old) (of.one (unary_of operator) (expr_of a.now)) nodes) }
     ensures kept { locals.new ≡ locals.old }
 {
-    on_one(
-        alloc,
-        defs.table(),
-        operator,
-        value_at(alloc, defs, left, slots, locals, a.get(), nodes),
-    )
+    let found = value_at(frame, locals, a, nodes);
+    on_one(frame.alloc, frame.defs.table(), operator, found)
 }
 
 /// An operator on two values.
 #[cycle(eval)]
-fn two(
-    alloc: Global,
-    defs: &Defs,
-    left: u32,
-    slots: &[Value],
-    locals: &mut Values,
-    operator: Binary,
-    a: &Boxed<Expr>,
-    b: &Boxed<Expr>,
-    nodes: u32,
-) -> Result<(Value, u32), Stop>
-    ensures value { let d = bodies (definitions_of defs.now) in
-        Ends result (node_under d (run_under d left) (around slots.now locals.old) (of.two (binary_of operator) (expr_of a.now) (expr_of b.now)) nodes) }
+fn two(frame: Frame, locals: &mut Values, operator: Binary, a: &Expr, b: &Expr, nodes: u32) -> Found
+    ensures value { let d = bodies (definitions_of frame.entry.defs.now) in
+        Ends result (node_under d (run_under d frame.entry.left) (around frame.entry.slots.now locals.old) (of.two (binary_of operator) (expr_of a.now) (expr_of b.now)) nodes) }
     ensures kept { locals.new ≡ locals.old }
 {
-    match value_at(alloc, defs, left, slots, locals, a.get(), nodes) {
-        Ok((a, nodes)) => on_two(
-            alloc,
-            operator,
-            a,
-            value_at(alloc, defs, left, slots, locals, b.get(), nodes),
-        ),
-        Err(stop) => Err(stop),
-    }
+    let (a, nodes) = value_at(frame, locals, a, nodes)?;
+    let found = value_at(frame, locals, b, nodes);
+    on_two(frame.alloc, operator, a, found)
 }
 
 /// `==` of two values.
 #[cycle(eval)]
-fn equal(
-    alloc: Global,
-    defs: &Defs,
-    left: u32,
-    slots: &[Value],
-    locals: &mut Values,
-    a: &Boxed<Expr>,
-    b: &Boxed<Expr>,
-    nodes: u32,
-) -> Result<(Value, u32), Stop>
-    ensures value { let d = bodies (definitions_of defs.now) in
-        Ends result (node_under d (run_under d left) (around slots.now locals.old) (of.equal (expr_of a.now) (expr_of b.now)) nodes) }
+fn equal(frame: Frame, locals: &mut Values, a: &Expr, b: &Expr, nodes: u32) -> Found
+    ensures value { let d = bodies (definitions_of frame.entry.defs.now) in
+        Ends result (node_under d (run_under d frame.entry.left) (around frame.entry.slots.now locals.old) (of.equal (expr_of a.now) (expr_of b.now)) nodes) }
     ensures kept { locals.new ≡ locals.old }
 {
-    match value_at(alloc, defs, left, slots, locals, a.get(), nodes) {
-        Ok((a, nodes)) => on_equal(
-            a,
-            value_at(alloc, defs, left, slots, locals, b.get(), nodes),
-        ),
-        Err(stop) => Err(stop),
-    }
+    let (a, nodes) = value_at(frame, locals, a, nodes)?;
+    on_equal(a, value_at(frame, locals, b, nodes))
 }
 
 /// `/\`, the right side of which is evaluated after True alone.
 #[cycle(eval)]
-fn both(
-    alloc: Global,
-    defs: &Defs,
-    left: u32,
-    slots: &[Value],
-    locals: &mut Values,
-    a: &Boxed<Expr>,
-    b: &Boxed<Expr>,
-    nodes: u32,
-) -> Result<(Value, u32), Stop>
-    ensures value { let d = bodies (definitions_of defs.now) in
-        Ends result (node_under d (run_under d left) (around slots.now locals.old) (of.both (expr_of a.now) (expr_of b.now)) nodes) }
+fn both(frame: Frame, locals: &mut Values, a: &Expr, b: &Expr, nodes: u32) -> Found
+    ensures value { let d = bodies (definitions_of frame.entry.defs.now) in
+        Ends result (node_under d (run_under d frame.entry.left) (around frame.entry.slots.now locals.old) (of.both (expr_of a.now) (expr_of b.now)) nodes) }
     ensures kept { locals.new ≡ locals.old }
 {
-    match truth(value_at(alloc, defs, left, slots, locals, a.get(), nodes)) {
-        Ok((true, nodes)) => value_at(alloc, defs, left, slots, locals, b.get(), nodes),
-        Ok((false, nodes)) => Ok((Value::Bool(false), nodes)),
-        Err(stop) => Err(stop),
+    match truth(value_at(frame, locals, a, nodes))? {
+        (true, nodes) => value_at(frame, locals, b, nodes),
+        (false, nodes) => Ok((Value::Bool(false), nodes)),
     }
 }
 
 /// `\/`, the right side of which is evaluated after False alone.
 #[cycle(eval)]
-fn either(
-    alloc: Global,
-    defs: &Defs,
-    left: u32,
-    slots: &[Value],
-    locals: &mut Values,
-    a: &Boxed<Expr>,
-    b: &Boxed<Expr>,
-    nodes: u32,
-) -> Result<(Value, u32), Stop>
-    ensures value { let d = bodies (definitions_of defs.now) in
-        Ends result (node_under d (run_under d left) (around slots.now locals.old) (of.either (expr_of a.now) (expr_of b.now)) nodes) }
+fn either(frame: Frame, locals: &mut Values, a: &Expr, b: &Expr, nodes: u32) -> Found
+    ensures value { let d = bodies (definitions_of frame.entry.defs.now) in
+        Ends result (node_under d (run_under d frame.entry.left) (around frame.entry.slots.now locals.old) (of.either (expr_of a.now) (expr_of b.now)) nodes) }
     ensures kept { locals.new ≡ locals.old }
 {
-    match truth(value_at(alloc, defs, left, slots, locals, a.get(), nodes)) {
-        Ok((true, nodes)) => Ok((Value::Bool(true), nodes)),
-        Ok((false, nodes)) => value_at(alloc, defs, left, slots, locals, b.get(), nodes),
-        Err(stop) => Err(stop),
+    match truth(value_at(frame, locals, a, nodes))? {
+        (true, nodes) => Ok((Value::Bool(true), nodes)),
+        (false, nodes) => value_at(frame, locals, b, nodes),
     }
 }
 
 /// The one branch that the condition chooses.
 #[cycle(eval)]
-fn choose(
-    alloc: Global,
-    defs: &Defs,
-    left: u32,
-    slots: &[Value],
-    locals: &mut Values,
-    c: &Boxed<Expr>,
-    a: &Boxed<Expr>,
-    b: &Boxed<Expr>,
-    nodes: u32,
-) -> Result<(Value, u32), Stop>
-    ensures value { let d = bodies (definitions_of defs.now) in
-        Ends result (node_under d (run_under d left) (around slots.now locals.old) (of.choose (expr_of c.now) (expr_of a.now) (expr_of b.now)) nodes) }
+fn choose(frame: Frame, locals: &mut Values, c: &Expr, a: &Expr, b: &Expr, nodes: u32) -> Found
+    ensures value { let d = bodies (definitions_of frame.entry.defs.now) in
+        Ends result (node_under d (run_under d frame.entry.left) (around frame.entry.slots.now locals.old) (of.choose (expr_of c.now) (expr_of a.now) (expr_of b.now)) nodes) }
     ensures kept { locals.new ≡ locals.old }
 {
-    match truth(value_at(alloc, defs, left, slots, locals, c.get(), nodes)) {
-        Ok((true, nodes)) => value_at(alloc, defs, left, slots, locals, a.get(), nodes),
-        Ok((false, nodes)) => value_at(alloc, defs, left, slots, locals, b.get(), nodes),
-        Err(stop) => Err(stop),
+    match truth(value_at(frame, locals, c, nodes))? {
+        (true, nodes) => value_at(frame, locals, a, nodes),
+        (false, nodes) => value_at(frame, locals, b, nodes),
     }
 }
 
 /// A function of the file, on the values of its arguments.
 #[cycle(eval)]
-fn call(
-    alloc: Global,
-    defs: &Defs,
-    left: u32,
-    slots: &[Value],
-    locals: &mut Values,
-    function: u32,
-    args: &Exprs,
-    nodes: u32,
-) -> Result<(Value, u32), Stop>
-    ensures value { let d = bodies (definitions_of defs.now) in
-        Ends result (node_under d (run_under d left) (around slots.now locals.old) (of.apply function (gathered (exprs_of args.now))) nodes) }
+fn call(frame: Frame, locals: &mut Values, function: u32, args: &Exprs, nodes: u32) -> Found
+    ensures value { let d = bodies (definitions_of frame.entry.defs.now) in
+        Ends result (node_under d (run_under d frame.entry.left) (around frame.entry.slots.now locals.old) (of.apply function (gathered (exprs_of args.now))) nodes) }
     ensures kept { locals.new ≡ locals.old }
 {
-    match each(alloc, defs, left, slots, locals, args.as_slice(), nodes) {
-        Ok((values, nodes)) => match defs.functions().get(function as usize) {
-            Some(function) => body(alloc, defs, left, values.as_slice(), &function.body, nodes),
-            None => Err(Stop::Wrong),
-        },
-        Err(stop) => Err(stop),
+    let (values, nodes) = each(frame, locals, args.as_slice(), nodes)?;
+    let inner = Frame {
+        slots: values.as_slice(),
+        ..frame
+    };
+    match frame.defs.functions().get(function as usize) {
+        Some(function) => body(inner, &function.body, nodes),
+        None => Err(Stop::Wrong),
     }
 }
 
 /// A constructor with the values of its fields.
 #[cycle(eval)]
-fn build(
-    alloc: Global,
-    defs: &Defs,
-    left: u32,
-    slots: &[Value],
-    locals: &mut Values,
-    constructor: u32,
-    args: &Exprs,
-    nodes: u32,
-) -> Result<(Value, u32), Stop>
-    ensures value { let d = bodies (definitions_of defs.now) in
-        Ends result (node_under d (run_under d left) (around slots.now locals.old) (of.build constructor (gathered (exprs_of args.now))) nodes) }
+fn build(frame: Frame, locals: &mut Values, constructor: u32, args: &Exprs, nodes: u32) -> Found
+    ensures value { let d = bodies (definitions_of frame.entry.defs.now) in
+        Ends result (node_under d (run_under d frame.entry.left) (around frame.entry.slots.now locals.old) (of.build constructor (gathered (exprs_of args.now))) nodes) }
     ensures kept { locals.new ≡ locals.old }
 {
-    built(
-        constructor,
-        each(alloc, defs, left, slots, locals, args.as_slice(), nodes),
-    )
+    built(constructor, each(frame, locals, args.as_slice(), nodes))
 }
 
 /// An expression that sees the value of another as one more local.
 #[cycle(eval)]
-fn let_in(
-    alloc: Global,
-    defs: &Defs,
-    left: u32,
-    slots: &[Value],
-    locals: &mut Values,
-    a: &Boxed<Expr>,
-    b: &Boxed<Expr>,
-    nodes: u32,
-) -> Result<(Value, u32), Stop>
-    ensures value { let ev = run_under (bodies (definitions_of defs.now)) left in
-        let env = around slots.now locals.old in
+fn let_in(frame: Frame, locals: &mut Values, a: &Expr, b: &Expr, nodes: u32) -> Found
+    ensures value { let ev = run_under (bodies (definitions_of frame.entry.defs.now)) frame.entry.left in
+        let env = around frame.entry.slots.now locals.old in
         Ends result (spec.then_run (ev env (expr_of a.now) nodes) (λ v. ev (under.with_variable env v) (expr_of b.now))) }
     ensures kept { locals.new ≡ locals.old }
 {
-    let found = value_at(alloc, defs, left, slots, locals, a.get(), nodes);
-    match pushed(locals, found) {
-        Ok(nodes) => {
-            let found = value_at(alloc, defs, left, slots, locals, b.get(), nodes);
-            unbind(locals);
-            found
-        }
-        Err(stop) => Err(stop),
-    }
+    let found = value_at(frame, locals, a, nodes);
+    let nodes = pushed(locals, found)?;
+    let found = value_at(frame, locals, b, nodes);
+    unbind(locals);
+    found
 }
 
-/// A body, which sees its parameters alone.
+/// A body, which sees its parameters alone: the slots of its frame.
 #[cycle(eval)]
-fn body(
-    alloc: Global,
-    defs: &Defs,
-    left: u32,
-    parameters: &[Value],
-    body: &Expr,
-    nodes: u32,
-) -> Result<(Value, u32), Stop>
-    ensures { Ends result (run_under (bodies (definitions_of defs.now)) left (around parameters.now []) (expr_of body.now) nodes) }
+fn body(frame: Frame, body: &Expr, nodes: u32) -> Found
+    ensures { Ends result (run_under (bodies (definitions_of frame.entry.defs.now)) frame.entry.left (around frame.entry.slots.now []) (expr_of body.now) nodes) }
 {
-    let mut locals = Items::new(alloc);
-    value_at(alloc, defs, left, parameters, &mut locals, body, nodes)
+    let mut locals = Items::new(frame.alloc);
+    value_at(frame, &mut locals, body, nodes)
 }
 
 /// The values of several expressions, in order.
 #[cycle(eval)]
 fn each(
-    alloc: Global,
-    defs: &Defs,
-    left: u32,
-    slots: &[Value],
+    frame: Frame,
     locals: &mut Values,
     exprs: &[Expr],
     nodes: u32,
 ) -> Result<(Values, u32), Stop>
-    ensures value { let d = bodies (definitions_of defs.now) in
-        EndEach result (each_under (run_under d left (around slots.now locals.old)) (exprs_of exprs.now) nodes) }
+    ensures value { let d = bodies (definitions_of frame.entry.defs.now) in
+        EndEach result (each_under (run_under d frame.entry.left (around frame.entry.slots.now locals.old)) (exprs_of exprs.now) nodes) }
     ensures kept { locals.new ≡ locals.old }
 {
-    let mut values = Items::new(alloc);
+    let mut values = Items::new(frame.alloc);
     let mut nodes = nodes;
     for expr in exprs {
-        let found = value_at(alloc, defs, left, slots, locals, expr, nodes);
-        match pushed(&mut values, found) {
-            Ok(more) => nodes = more,
-            Err(stop) => return Err(stop),
-        }
+        let found = value_at(frame, locals, expr, nodes);
+        nodes = pushed(&mut values, found)?;
     }
     Ok((values, nodes))
 }

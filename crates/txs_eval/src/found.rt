@@ -16,15 +16,18 @@ use std::alloc::Global;
 use txs_terms::{Binary, Unary};
 use txs_values::{TypeTable, Value, Values, copy_value};
 
+/// The value that was found, with the nodes that were entered by then; or why none was.
+pub type Found = Result<(Value, u32), Stop>;
+
 /// A value that stands in the expression.
-pub fn copied(alloc: Global, value: &Value, nodes: u32) -> Result<(Value, u32), Stop>
+pub fn copied(alloc: Global, value: &Value, nodes: u32) -> Found
     ensures { Ends result (spec.got (value_of value.now) nodes) }
 {
     Ok((copy_value(alloc, value)?, nodes))
 }
 
 /// The value of a variable.
-pub fn looked_up(alloc: Global, values: &[Value], at: u32, nodes: u32) -> Result<(Value, u32), Stop>
+pub fn looked_up(alloc: Global, values: &[Value], at: u32, nodes: u32) -> Found
     ensures { Ends result (under.looked_up (slice_get (values_of values.now) at) nodes) }
 {
     match values.get(at as usize) {
@@ -34,7 +37,7 @@ pub fn looked_up(alloc: Global, values: &[Value], at: u32, nodes: u32) -> Result
 }
 
 /// What an operator gives, with the nodes that were entered so far.
-pub fn counted(found: Result<Value, Stop>, nodes: u32) -> Result<(Value, u32), Stop>
+pub fn counted(found: Result<Value, Stop>, nodes: u32) -> Found
     ensures value { (o : spec.Outcome) → Comes found o → Ends result (spec.after o nodes) }
     ensures memory { result ≡ Err Stop.NoMemory → found ≡ Err Stop.NoMemory }
 {
@@ -45,12 +48,7 @@ pub fn counted(found: Result<Value, Stop>, nodes: u32) -> Result<(Value, u32), S
 }
 
 /// An operator on the value that was found.
-pub fn on_one(
-    alloc: Global,
-    table: &TypeTable,
-    operator: Unary,
-    found: Result<(Value, u32), Stop>,
-) -> Result<(Value, u32), Stop>
+pub fn on_one(alloc: Global, table: &TypeTable, operator: Unary, found: Found) -> Found
     requires { IsNamed table.now }
     ensures value { (r : spec.Run) → Ends found r → Ends result (spec.then_run r (λ x. spec.after (spec.unary table.now (unary_of operator) x))) }
 {
@@ -61,12 +59,7 @@ pub fn on_one(
 }
 
 /// An operator on a value and the one that was found behind it.
-pub fn on_two(
-    alloc: Global,
-    operator: Binary,
-    a: Value,
-    found: Result<(Value, u32), Stop>,
-) -> Result<(Value, u32), Stop>
+pub fn on_two(alloc: Global, operator: Binary, a: Value, found: Found) -> Found
     ensures value { (r : spec.Run) → Ends found r → Ends result (spec.then_run r (λ y. spec.after (spec.binary (binary_of operator) (value_of a) y))) }
 {
     match found {
@@ -76,7 +69,7 @@ pub fn on_two(
 }
 
 /// Whether a value and the one that was found behind it are the same.
-pub fn on_equal(a: Value, found: Result<(Value, u32), Stop>) -> Result<(Value, u32), Stop>
+pub fn on_equal(a: Value, found: Found) -> Found
     ensures value { (r : spec.Run) → Ends found r → Ends result (spec.then_run r (λ y. spec.got (bool (same_value (value_of a) y)))) }
     ensures memory { result ≡ Err Stop.NoMemory → found ≡ Err Stop.NoMemory }
 {
@@ -87,7 +80,7 @@ pub fn on_equal(a: Value, found: Result<(Value, u32), Stop>) -> Result<(Value, u
 }
 
 /// The truth value that was found.
-pub fn truth(found: Result<(Value, u32), Stop>) -> Result<(bool, u32), Stop>
+pub fn truth(found: Found) -> Result<(bool, u32), Stop>
     ensures value { (r : spec.Run) → Ends found r → EndTruth result r }
     ensures memory { result ≡ Err Stop.NoMemory → found ≡ Err Stop.NoMemory }
 {
@@ -99,7 +92,7 @@ pub fn truth(found: Result<(Value, u32), Stop>) -> Result<(bool, u32), Stop>
 }
 
 /// A constructor with the fields that were found.
-pub fn built(constructor: u32, found: Result<(Values, u32), Stop>) -> Result<(Value, u32), Stop>
+pub fn built(constructor: u32, found: Result<(Values, u32), Stop>) -> Found
     ensures value { (r : spec.Runs) → EndEach found r → Ends result (spec.then_runs r (λ vs. spec.after (spec.sized (cons constructor (packed vs))))) }
     ensures memory { result ≡ Err Stop.NoMemory → found ≡ Err Stop.NoMemory }
 {
@@ -116,7 +109,7 @@ pub fn built(constructor: u32, found: Result<(Values, u32), Stop>) -> Result<(Va
 }
 
 /// The value that was found goes behind these.
-pub fn pushed(values: &mut Values, found: Result<(Value, u32), Stop>) -> Result<u32, Stop>
+pub fn pushed(values: &mut Values, found: Found) -> Result<u32, Stop>
     ensures value { IfOk result (λ n. (v : rust.Value) × (found ≡ Ok (v, n)) × (values.new ≡ values.old ++ v ∷ [])) }
     ensures kept { OnErr result (values.new ≡ values.old) }
     ensures stopped { (r : spec.Run) → Ends found r → IfErr result (λ s. Stopped spec.bad s r) }

@@ -9,6 +9,7 @@ mod functions;
 mod operators;
 
 use super::*;
+use sqlite_items::Boxed;
 use std::test::Fail;
 use txs_terms::FunctionDef;
 use txs_values::{NoMemory, Text, Ty, TypeTable, text_of};
@@ -102,7 +103,7 @@ fn name_of(stop: Stop) -> &'static str {
 
 /// The text of the value, or the name of the fault.
 fn said(alloc: Global, defs: &Defs, expr: &Expr) -> Result<Text, NoMemory> {
-    match body(alloc, defs, HEIGHT_LIMIT, &[], expr, 0) {
+    match from_the_top(alloc, defs, &[], expr) {
         Ok((value, _)) => text_of(alloc, defs.table(), &value),
         Err(stop) => Text::from_str(alloc, name_of(stop)),
     }
