@@ -1,6 +1,6 @@
 -- What the rules allow after a trace, for a model over two channels of type Int.
 use Rattle.std.specs.Prelude.{ℕ, ℤ, List, [], ◌∷◌, map, reverse}
-use Rattle.txs_values.specs.Value.{whole, num}
+use Rattle.txs_values.specs.Value.{integer, num}
 use Rattle.txs_terms.specs.Action.{Action, Scope}
 use Rattle.txs_terms.specs.Term.{Term}
 use Rattle.txs_terms.specs.Rules as rules
@@ -16,7 +16,7 @@ definitions = record { defs = record { table = []; functions = []; constants = [
 
 -- the input channel has the number 0, and the output channel 1
 abbrev pub scope : Scope
-scope = (whole ∷ []) ∷ (whole ∷ []) ∷ []
+scope = (integer ∷ []) ∷ (integer ∷ []) ∷ []
 
 abbrev pub sync : Sync
 sync = record { ins = (0 ∷ []) ∷ []; outs = (1 ∷ []) ∷ [] }

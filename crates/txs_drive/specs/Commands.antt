@@ -1,7 +1,7 @@
 -- The command of a line.
 use Rattle.std.specs.Prelude.{ℕ, ◌-◌, ℤ, ◌&&◌, List, [], ◌∷◌, length, take, cond, eqb, nat_lt, Option, Some, None, bytes_eq, codes, slice_index}
 use Rattle.txs_values.specs.Spelling.{read_text}
-use Rattle.txs_values.specs.Value.{Value, num, bool, text, cons, whole}
+use Rattle.txs_values.specs.Value.{Value, num, bool, text, cons, integer}
 use Rattle.txs_drive.specs.declared.command.Command.{Command}
 use Rattle.txs_drive.specs.declared.command.Command.TheVariants.{Pass, Quit, Tester, Observe, Stimulate, Refused}
 use Rattle.txs_drive.specs.declared.model.Model.{Model}
@@ -17,7 +17,7 @@ number_of (Some (cons c vs)) = None
 
 -- the Int that the bytes spell
 abbrev pub spelled : List ℕ → Option ℤ
-spelled bs = number_of (read_text [] whole bs)
+spelled bs = number_of (read_text [] integer bs)
 
 abbrev pub stimulus : Option ℤ → Command
 stimulus None = Refused

@@ -1,7 +1,7 @@
 -- Definitions of one function that are well typed, and expressions over them.
 use Rattle.std.proofs.Common.{◌≡◌, ℕ, zero, suc, ℤ, pos, true, List, [], ◌∷◌, Option, None, Some, refl, sym, subst, arith, slice_get, FitsSigned}
 use Rattle.std.specs.Int.{w128}
-use Rattle.txs_values.specs.Value.{Ty, whole, string, Table, num, fits}
+use Rattle.txs_values.specs.Value.{Ty, integer, string, Table, num, fits}
 use Rattle.txs_values.specs.Spelled.{IsNamed}
 use Rattle.txs_terms.specs.declared.defs.FunctionDef as rust_function
 use Rattle.txs_terms.specs.declared.defs.ConstantDef as rust_constant
@@ -67,8 +67,8 @@ one_fits = refl
 abbrev pub counting : List ℕ → Function
 counting f = record {
   name = f;
-  takes = whole ∷ [];
-  gives = whole;
+  takes = integer ∷ [];
+  gives = integer;
   body = choose (equal (slot 0) (val (num (pos 0)))) (val (num (pos 0))) (apply 0 (more (two minus (slot 0) (val (num (pos 1)))) none));
 }
 
@@ -81,7 +81,7 @@ counting_defined f = alone_defined [] (counting f) ((tt, tt), tt) no_table no_na
 abbrev pub doubling : List ℕ → Function
 doubling f = record {
   name = f;
-  takes = string ∷ whole ∷ [];
+  takes = string ∷ integer ∷ [];
   gives = string;
   body =
       choose (equal (slot 1) (val (num (pos 0)))) (slot 0)
@@ -96,28 +96,28 @@ doubling_defined f = alone_defined [] (doubling f) ((tt, (tt, tt)), tt) no_table
 -- ---- expressions
 
 -- a call of the first function on a number
-pub call_typed : (d : Definitions) (e : Expr) (x : ℤ) → AreDefined d → slice_get (signatures_of d).functions 0 ≡ Some (record { takes = whole ∷ []; gives = whole })
+pub call_typed : (d : Definitions) (e : Expr) (x : ℤ) → AreDefined d → slice_get (signatures_of d).functions 0 ≡ Some (record { takes = integer ∷ []; gives = integer })
     → FitsSigned w128 x → e ≡ apply 0 (more (val (num x)) none) → (t : Ty) × IsTyped d [] e t
 call_typed d e x h s f q = (
-  whole,
+  integer,
   record {
     signatures = signatures_of d;
     definitions = h.typed;
     types = [];
     have = tt;
-    typed = subst (λ e. Of d.table (signatures_of d) [] [] e whole) (sym q) (apply_of s (more_of' (val_of (fits_true x f)) none_of));
+    typed = subst (λ e. Of d.table (signatures_of d) [] [] e integer) (sym q) (apply_of s (more_of' (val_of (fits_true x f)) none_of));
   },
 )
 
 -- what an operator gives on two numbers
-result_of : (o : rust_binary.Binary) → (o ≡ binary.Concat → ⊥) → (o ≡ binary.CharAt → ⊥) → (t : Ty) × BinaryOf (binary_of o) whole whole t
+result_of : (o : rust_binary.Binary) → (o ≡ binary.Concat → ⊥) → (o ≡ binary.CharAt → ⊥) → (t : Ty) × BinaryOf (binary_of o) integer integer t
 result_of binary.Plus h k = (_, plus_of)
 result_of binary.Minus h k = (_, minus_of)
 result_of binary.Times h k = (_, times_of)
 result_of binary.Divide h k = (_, divide_of)
 result_of binary.Remainder h k = (_, remainder_of)
 result_of binary.Concat h k = absurd (h refl)
-result_of binary.Differ h k = (_, differ_of whole)
+result_of binary.Differ h k = (_, differ_of integer)
 result_of binary.LessThan h k = (_, less_of)
 result_of binary.AtMost h k = (_, at_most_of)
 result_of binary.MoreThan h k = (_, more_of)

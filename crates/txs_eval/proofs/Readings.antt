@@ -1,6 +1,6 @@
 -- `fromString`: a text is read as the value that it spells, where that is an allowed one.
 use Rattle.std.proofs.Common.{◌≡◌, ◌≢◌, ◌⊎◌, ⊎_elim, List, ℕ, Option, Some, None, refl, sym, ap, ◌∙◌, subst, IsUtf8}
-use Rattle.txs_values.specs.Value.{Ty, whole, truth, string, named, Value, Table}
+use Rattle.txs_values.specs.Value.{Ty, integer, truth, string, named, Value, Table}
 use Rattle.txs_values.specs.declared.ty.Ty as rust_ty
 use Rattle.txs_values.specs.declared.ty.Ty.TheVariants as variant
 use Rattle.txs_values.specs.declared.refusal.ReadValueFault.{ReadValueFault}
@@ -15,7 +15,7 @@ use Rattle.txs_eval.specs.Answer.{Stopped}
 use Rattle.txs_terms.specs.Eval.{text_to, spelled, fine, broken, form}
 
 spelled_so : (table : Table) (t : Ty) (bs : List ℕ) → t ≢ string → text_to table t bs ≡ spelled (read_text table t bs)
-spelled_so table whole bs h = refl
+spelled_so table integer bs h = refl
 spelled_so table truth bs h = refl
 spelled_so table string bs h = absurd (h refl)
 spelled_so table (named k) bs h = refl

@@ -1,6 +1,6 @@
 -- The atoms of a query, and which of them are order atoms.
 use Rattle.std.specs.Prelude.{Bool, true, false, ◌&&◌, ◌||◌, cond, List, [], ◌∷◌, ◌++◌, Option, Some, None}
-use Rattle.txs_values.specs.Value.{Value, whole, truth, bool}
+use Rattle.txs_values.specs.Value.{Value, integer, truth, bool}
 use Rattle.txs_terms.specs.Expr.{Binary, Expr, has_slot, negation, is_made_by, select, differ, less_than, at_most, more_than, at_least, val, slot, local, constant, one, two, equal, both, either, choose, apply, build, let_in}
 use Rattle.txs_terms.specs.Eval.{Run, eval, got, bad}
 use Rattle.txs_guard.specs.Query.{Query}
@@ -50,12 +50,12 @@ is_equality q a b =
     || (has_spot (spot_of a) && has_value (fixed_value q b) || has_value (fixed_value q a) && has_spot (spot_of b))
 
 -- an Int place, or a constant
-abbrev pub is_whole_side : Query → Expr → Bool
-is_whole_side q a = is_type whole (spot_type q (spot_of a)) || has_value (fixed_value q a)
+abbrev pub is_integer_side : Query → Expr → Bool
+is_integer_side q a = is_type integer (spot_type q (spot_of a)) || has_value (fixed_value q a)
 
 -- Int places and constants, one place at least
 abbrev pub is_comparison : Query → Expr → Expr → Bool
-is_comparison q a b = is_whole_side q a && (is_whole_side q b && (has_spot (spot_of a) || has_spot (spot_of b)))
+is_comparison q a b = is_integer_side q a && (is_integer_side q b && (has_spot (spot_of a) || has_spot (spot_of b)))
 
 -- `<`, `<=`, `>` and `>=`
 abbrev pub is_order_sign : Binary → Bool

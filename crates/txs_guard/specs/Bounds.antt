@@ -1,7 +1,7 @@
 -- The candidates of each slot where each has finitely many values, or is an Int that is bounded on both sides.
 use Rattle.std.specs.Prelude.{ℕ, suc, ℤ, pos, negsuc, ◌+ℤ◌, ◌-ℤ◌, int_lt, Bool, true, false, ◌&&◌, not, cond, eqb, List, [], ◌∷◌, ◌++◌, map, Option, Some, None}
 use Rattle.txs_terms.specs.Action.{from}
-use Rattle.txs_values.specs.Value.{Ty, Value, Table, place_of, whole, truth, string, named, num, bool, cons, no_value}
+use Rattle.txs_values.specs.Value.{Ty, Value, Table, place_of, integer, truth, string, named, num, bool, cons, no_value}
 use Rattle.txs_terms.specs.Expr.{Binary, Expr, less_than, at_most, more_than, at_least, slot, two, equal}
 use Rattle.txs_guard.specs.Query.{Query}
 use Rattle.txs_guard.specs.Atom.{fixed_value}
@@ -92,7 +92,7 @@ plain_made table k (c ∷ cs) =
 
 -- all values of a slot, where they are bounded so
 abbrev pub every_value : Table → List Bound → ℕ → Ty → Option (List Value)
-every_value table bs i whole = between (bounds_for i true bs) (bounds_for i false bs)
+every_value table bs i integer = between (bounds_for i true bs) (bounds_for i false bs)
 every_value table bs i truth = Some (bool false ∷ bool true ∷ [])
 every_value table bs i string = None
 every_value table bs i (named k) = plain_made table k (from 0 (count_made table))

@@ -3,7 +3,7 @@ use Rattle.std.specs.Prelude.{ℕ, zero, suc, ◌+◌, ℤ, pos, ◌+ℤ◌, ◌
 use Rattle.std.specs.Ordering.{int_eq}
 use Rattle.std.specs.Str.{bytes_eq}
 use Rattle.std.specs.Int.Digits.{digits_of}
-use Rattle.txs_values.specs.Value.{Ty, Value, Field, Table, Place, place_of, packed, fits, whole, truth, string, named, num, bool, text, cons}
+use Rattle.txs_values.specs.Value.{Ty, Value, Field, Table, Place, place_of, packed, fits, integer, truth, string, named, num, bool, text, cons}
 use Rattle.txs_values.specs.Default.{default_of}
 use Rattle.txs_terms.specs.Action.{from}
 use Rattle.txs_guard.specs.Query.{Query}
@@ -47,8 +47,8 @@ runs_up n [] = []
 runs_up n (k ∷ ks) = run_up k n ++ runs_up n ks
 
 -- each constant, the n numbers after it, and the n numbers before the least one; 0 is a constant
-abbrev pub whole_candidates : ℕ → List ℤ → List ℤ
-whole_candidates n ks = sort_in_range (run_up (least (pos 0) ks -ℤ pos n) n ++ runs_up n (pos 0 ∷ ks))
+abbrev pub integer_candidates : ℕ → List ℤ → List ℤ
+integer_candidates n ks = sort_in_range (run_up (least (pos 0) ks -ℤ pos n) n ++ runs_up n (pos 0 ∷ ks))
 
 -- t1, t2 and so on
 abbrev pub fresh_text : ℕ → List ℕ
@@ -69,7 +69,7 @@ text_candidates n ts = ts ++ fresh_texts ts n
 
 -- Ints and texts for each place
 pub record Pools : Type 0 where
-  pub whole_pool : List ℤ
+  pub integer_pool : List ℤ
   pub text_pool : List (List ℕ)
 
 -- how many constructors the types have
@@ -99,7 +99,7 @@ made_choices default go c (Some fs) ps = map (λ vs. cons c (packed vs)) (cells 
 
 -- the candidates of a place of this type, below which these paths are mentioned; at most `left` selectors deep
 abbrev pub choices : Table → (Ty → Value) → Pools → ℕ → Ty → List Path → List Value
-choices table default pools left whole ps = map num pools.whole_pool
+choices table default pools left integer ps = map num pools.integer_pool
 choices table default pools left truth ps = bool false ∷ bool true ∷ []
 choices table default pools left string ps = map text pools.text_pool
 choices table default pools zero (named k) ps = []
@@ -119,7 +119,7 @@ slot_choices go ss i (t ∷ ts) = go t (paths_at i ss) ∷ slot_choices go ss (s
 -- the Ints and the texts for the places of a query
 abbrev pub pools_of : Query → Pools
 pools_of q = record {
-  whole_pool = whole_candidates (length (places_with q whole)) (numbers q);
+  integer_pool = integer_candidates (length (places_with q integer)) (numbers q);
   text_pool = text_candidates (length (places_with q string)) (texts q);
 }
 

@@ -1,6 +1,6 @@
 -- Places: a slot under selectors, the innermost first.
 use Rattle.std.specs.Prelude.{ℕ, Bool, true, false, ◌||◌, eqb, List, [], ◌∷◌, ◌++◌, Option, Some, None, slice_get}
-use Rattle.txs_values.specs.Value.{Ty, Table, Place, place_of, whole, truth, string, named}
+use Rattle.txs_values.specs.Value.{Ty, Table, Place, place_of, integer, truth, string, named}
 use Rattle.txs_terms.specs.Expr.{Expr, select, slot, one}
 use Rattle.txs_guard.specs.Query.{Query}
 
@@ -41,7 +41,7 @@ has_spot (Some p) = true
 
 -- whether two types are equal
 abbrev pub same_ty : Ty → Ty → Bool
-same_ty whole whole = true
+same_ty integer integer = true
 same_ty truth truth = true
 same_ty string string = true
 same_ty (named j) (named k) = eqb j k
@@ -54,7 +54,7 @@ is_type t (Some u) = same_ty t u
 
 -- whether it is Int, Bool or String
 abbrev pub is_plain : Option Ty → Bool
-is_plain t = is_type whole t || (is_type truth t || is_type string t)
+is_plain t = is_type integer t || (is_type truth t || is_type string t)
 
 -- whether both are there, and equal
 abbrev pub same_types : Option Ty → Option Ty → Bool

@@ -1,6 +1,6 @@
 -- Guards as queries: grouped by shared slots, the slots of each group numbered by first use.
 use Rattle.std.specs.Prelude.{ℕ, zero, suc, Bool, false, ◌||◌, cond, List, [], ◌∷◌, ◌++◌, length, map, Option, Some, None, slice_get}
-use Rattle.txs_values.specs.Value.{Ty, whole}
+use Rattle.txs_values.specs.Value.{Ty, integer}
 use Rattle.txs_terms.specs.Expr.{Expr, put_all, Exprs, val, slot, local, constant, one, two, equal, both, either, choose, apply, build, let_in, none, more}
 use Rattle.txs_terms.specs.Eval.{Defs}
 use Rattle.txs_terms.specs.Action.{has}
@@ -69,9 +69,9 @@ abbrev pub distinct : List ℕ → List ℕ
 distinct xs = distinct_after [] xs
 
 -- a type, and Int where there is none
-abbrev pub type_or_whole : Option Ty → Ty
-type_or_whole None = whole
-type_or_whole (Some t) = t
+abbrev pub type_or_integer : Option Ty → Ty
+type_or_integer None = integer
+type_or_integer (Some t) = t
 
 -- the types of the slots, and conjuncts over them
 pub record Query : Type 0 where
@@ -91,7 +91,7 @@ part_for defs types es =
     record {
       query = record {
         defs = defs;
-        slots = map (λ s. type_or_whole (slice_get types s)) ss;
+        slots = map (λ s. type_or_integer (slice_get types s)) ss;
         conjuncts = put_all (λ i. slot (position ss i)) es;
       };
       slots = ss;

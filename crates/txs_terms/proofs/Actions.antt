@@ -3,7 +3,7 @@ use Rattle.std.proofs.Common.{◌≡◌, ℕ, ℤ, ◌^◌, List, [], ◌∷◌,
 use Rattle.std.specs.Int.{w128}
 use Rattle.std.specs.Int.Signed.{mag}
 use Rattle.std.proofs.lemmas.Bool.Decides.{Decides-ltb}
-use Rattle.txs_values.specs.Value.{Ty, whole, Table, num, fits, HaveTypes}
+use Rattle.txs_values.specs.Value.{Ty, integer, Table, num, fits, HaveTypes}
 use Rattle.txs_terms.specs.Action.{Scope, IsAction, types_on}
 use Rattle.txs_terms.specs.Sets.{IsInt}
 
@@ -11,7 +11,7 @@ pub in_range_fits : (v : ℤ) → FitsSigned w128 v → fits v ≡ true
 unfolding fits
 in_range_fits v h = (Decides-ltb (mag v) (2 ^ 127)).1 h.sfits
 
-int_types : (table : Table) (ts : List Ty) (v : ℤ) → ts ≡ whole ∷ [] → fits v ≡ true → HaveTypes table (num v ∷ []) ts
+int_types : (table : Table) (ts : List Ty) (v : ℤ) → ts ≡ integer ∷ [] → fits v ≡ true → HaveTypes table (num v ∷ []) ts
 int_types table ts v e h = subst (λ us. HaveTypes table (num v ∷ []) us) (sym e) (h, tt)
 
 pub int_action : (table : Table) (scope : Scope) (c : ℕ) (v : ℤ) → fits v ≡ true → IsInt scope c

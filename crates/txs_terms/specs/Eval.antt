@@ -1,6 +1,6 @@
 -- Evaluation by value, from left to right, with limits of height and nodes.
 use Rattle.std.specs.Prelude.{◌≡◌, ℕ, zero, suc, ℤ, pos, negsuc, ◌+ℤ◌, ◌-ℤ◌, ◌*ℤ◌, neg_ℤ, int_div, int_rem, true, false, not, cond, ltb, eqb, List, [], ◌∷◌, ◌++◌, length, Option, Some, None, slice_get, int_lt, int_le, chars, encode_utf8}
-use Rattle.txs_values.specs.Value.{Ty, whole, truth, string, named, Value, num, bool, text, cons, listed, packed, size, height, Table, same_value, fits, value_size_limit, value_height_limit}
+use Rattle.txs_values.specs.Value.{Ty, integer, truth, string, named, Value, num, bool, text, cons, listed, packed, size, height, Table, same_value, fits, value_size_limit, value_height_limit}
 use Rattle.txs_values.specs.Text.{text_of}
 use Rattle.txs_values.specs.Spelling.{read_text}
 use Rattle.txs_terms.specs.Expr.{Unary, negate, negation, to_text, from_text, len, is_made_by, select, Binary, plus, minus, times, divide, remainder, concat, differ, less_than, at_most, more_than, at_least, char_at, Expr, val, slot, local, constant, one, two, equal, both, either, choose, apply, build, let_in, Exprs, none, more, put, with_local, filled}
@@ -62,7 +62,7 @@ spelled (Some v) = fine v
 
 abbrev pub text_to : Table → Ty → List ℕ → Outcome
 text_to table string bs = fine (text bs)
-text_to table whole bs = spelled (read_text table whole bs)
+text_to table integer bs = spelled (read_text table integer bs)
 text_to table truth bs = spelled (read_text table truth bs)
 text_to table (named k) bs = spelled (read_text table (named k) bs)
 

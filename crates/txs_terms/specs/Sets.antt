@@ -1,6 +1,6 @@
 -- Sets of terms that are the terms after a trace, member for member.
 use Rattle.std.specs.Prelude.{◌≡◌, ◌↔◌, ℕ, ◌+◌, true, nat_lt, List, [], ◌∷◌}
-use Rattle.txs_values.specs.Value.{whole, Value, num, fits}
+use Rattle.txs_values.specs.Value.{integer, Value, num, fits}
 use Rattle.txs_terms.specs.Expr.{Expr, val, slot}
 use Rattle.txs_terms.specs.Action.{Action, act, Scope, types_on}
 use Rattle.txs_terms.specs.Term.{Position, give, take, Offer, Term, stop, prefix, choice}
@@ -17,7 +17,7 @@ CanDo model scope sync b trace a = (t : Term) × (t' : Term) × After model scop
 
 -- the channel has one position, of type Int
 abbrev pub IsInt : Scope → ℕ → Type 0
-IsInt scope c = types_on scope c ≡ whole ∷ []
+IsInt scope c = types_on scope c ≡ integer ∷ []
 
 -- ---- the terms that are built so far
 

@@ -1,6 +1,6 @@
 -- Which expressions and terms are well typed: what holds of all that comes of an accepted file.
 use Rattle.std.specs.Prelude.{◌≡◌, ◌⊎◌, ℕ, ◌<◌, false, List, [], ◌∷◌, ◌++◌, length, Option, Some, None, slice_get}
-use Rattle.txs_values.specs.Value.{Ty, whole, truth, string, named, Value, Table, Constructor, Place, place_of, field_types, HasType}
+use Rattle.txs_values.specs.Value.{Ty, integer, truth, string, named, Value, Table, Constructor, Place, place_of, field_types, HasType}
 use Rattle.txs_values.specs.Default.{default_if}
 use Rattle.txs_terms.specs.Expr.{Unary, negate, negation, to_text, from_text, len, is_made_by, select, Binary, plus, minus, times, divide, remainder, concat, differ, less_than, at_most, more_than, at_least, char_at, Expr, val, slot, local, constant, one, two, equal, both, either, choose, apply, build, let_in, Exprs, none, more}
 use Rattle.txs_terms.specs.Eval.{Defs}
@@ -33,7 +33,7 @@ pub record Signatures : Type 0 where
 
 -- Int, Bool, String, or a type of the table
 abbrev pub IsType : Table → Ty → Type 0
-IsType table whole = Unit {0}
+IsType table integer = Unit {0}
 IsType table truth = Unit {0}
 IsType table string = Unit {0}
 IsType table (named k) = k < length table
@@ -49,29 +49,29 @@ AreScope table (ts ∷ scope) = AreTypes table ts × AreScope table scope
 
 -- an operator from a type to a type
 pub data UnaryOf (table : Table) : Unary → Ty → Ty → Type 0 where
-  negate_of : UnaryOf table negate whole whole
+  negate_of : UnaryOf table negate integer integer
   negation_of : UnaryOf table negation truth truth
   to_text_of : (t : Ty) → UnaryOf table to_text t string
   from_text_of : (t : Ty) → UnaryOf table (from_text t) string t
-  len_of : UnaryOf table len string whole
+  len_of : UnaryOf table len string integer
   made_by_of : (c k : ℕ) (x : Constructor) → place_of table c ≡ Some (record { ty = k; constructor = x })
       → UnaryOf table (is_made_by c) (named k) truth
   select_of : (c j k : ℕ) (t : Ty) (x : Constructor) → place_of table c ≡ Some (record { ty = k; constructor = x })
       → slice_get (field_types x.fields) j ≡ Some t → UnaryOf table (select c j) (named k) t
 
 pub data BinaryOf : Binary → Ty → Ty → Ty → Type 0 where
-  plus_of : BinaryOf plus whole whole whole
-  minus_of : BinaryOf minus whole whole whole
-  times_of : BinaryOf times whole whole whole
-  divide_of : BinaryOf divide whole whole whole
-  remainder_of : BinaryOf remainder whole whole whole
+  plus_of : BinaryOf plus integer integer integer
+  minus_of : BinaryOf minus integer integer integer
+  times_of : BinaryOf times integer integer integer
+  divide_of : BinaryOf divide integer integer integer
+  remainder_of : BinaryOf remainder integer integer integer
   concat_of : BinaryOf concat string string string
   differ_of : (t : Ty) → BinaryOf differ t t truth
-  less_of : BinaryOf less_than whole whole truth
-  at_most_of : BinaryOf at_most whole whole truth
-  more_of : BinaryOf more_than whole whole truth
-  at_least_of : BinaryOf at_least whole whole truth
-  char_of : BinaryOf char_at string whole string
+  less_of : BinaryOf less_than integer integer truth
+  at_most_of : BinaryOf at_most integer integer truth
+  more_of : BinaryOf more_than integer integer truth
+  at_least_of : BinaryOf at_least integer integer truth
+  char_of : BinaryOf char_at string integer string
 
 -- the expression has this type, where slots and locals have theirs
 mutual

@@ -1,7 +1,7 @@
 -- Small files and queries: what they mean, or what offends in them and where.
 use Rattle.std.proofs.Common.{◌≡◌, ℕ, zero, suc, Bool, true, false, ◌&&◌, not, ap, List, [], ◌∷◌, codes, Some, None, refl, inl, inr, ◌∙◌, true≢false, arith}
 use Rattle.std.specs.Prelude.{pos, eqb}
-use Rattle.txs_values.specs.Value.{Ty, whole, truth, string, named, num, text}
+use Rattle.txs_values.specs.Value.{Ty, integer, truth, string, named, num, text}
 use Rattle.txs_terms.specs.Expr.{Expr, none, more, val, slot, local, one, two, equal, choose, apply, from_text, minus}
 use Rattle.txs_terms.specs.Defs.{Definitions}
 use Rattle.txs_syntax.specs.declared.ast.Name.{Name}
@@ -50,8 +50,8 @@ f_meant = record {
   table = [];
   functions = record {
     name = codes "f";
-    takes = whole ∷ [];
-    gives = whole;
+    takes = integer ∷ [];
+    gives = integer;
     body = choose (equal (slot 0) zero_value) zero_value (apply 0 (more (two minus (slot 0) (val (num (pos 1)))) none));
   } ∷ [];
   constants = [];
@@ -67,7 +67,7 @@ f_is_meant = record {
       (chosen n_is_zero (digit 49 0) f_again
       (compared (tree.Name (word 37 (codes "n"))) (digit 42 0) equal_comparison left_first (name refl tt) (number (inl refl)) (inl refl))
       (number (inl refl))
-      (call (less_one ∷ []) refl (one_more (operated (tree.Name (word 58 (codes "n"))) (digit 62 1) minus_operator (name refl (inl refl)) (number (inl refl)) (inl refl)) nothing) (function_made (Some whole) 0 (whole ∷ []) whole _) (inl refl)))
+      (call (less_one ∷ []) refl (one_more (operated (tree.Name (word 58 (codes "n"))) (digit 62 1) minus_operator (name refl (inl refl)) (number (inl refl)) (inl refl)) nothing) (function_made (Some integer) 0 (integer ∷ []) integer _) (inl refl)))
       no_function;
   constants = function_between no_constant;
 }
@@ -88,10 +88,10 @@ reads_back =
 
 -- fromString("1") == 2: the left side is needed at the type of the right one
 read_and_compared : Elaborates bare None (tree.Binary op.Equal one_read (digit 19 2))
-    (equal (one (from_text whole) (val (text (codes "1")))) (val (num (pos 2)))) truth
+    (equal (one (from_text integer) (val (text (codes "1")))) (val (num (pos 2)))) truth
 read_and_compared =
     compared_back one_read (digit 19 2) equal_comparison reads_back (number tt)
-    (call (tree.Text 11 (codes "1") ∷ []) refl (one_more (quoted (inl refl)) nothing) (from_string_made whole (val (text (codes "1")))) (inl refl)) tt
+    (call (tree.Text 11 (codes "1") ∷ []) refl (one_more (quoted (inl refl)) nothing) (from_string_made integer (val (text (codes "1")))) (inl refl)) tt
 
 -- which trees can be typed from outside alone: LET by its body, IF by its THEN branch
 abbrev x_name : Name
@@ -148,22 +148,22 @@ abbrev c_file : File
 c_file = record { defs = def.ConstDef (word 9 (codes "c")) (word 14 (codes "Bool")) (tree.Group 23 sum) ∷ [] }
 
 abbrev is_truth : Ty → Bool
-is_truth whole = false
+is_truth integer = false
 is_truth truth = true
 is_truth string = false
 is_truth (named k) = false
 
 abbrev is_whole : Ty → Bool
-is_whole whole = true
+is_whole integer = true
 is_whole truth = false
 is_whole string = false
 is_whole (named k) = false
 
-truth_is_not_whole : truth ≡ whole → ⊥
-truth_is_not_whole p = true≢false (ap is_truth p)
+truth_is_not_integer : truth ≡ integer → ⊥
+truth_is_not_integer p = true≢false (ap is_truth p)
 
-not_fitting : Fits (scope_in c_file []) truth whole → ⊥
-not_fitting (inl p) = truth_is_not_whole p
+not_fitting : Fits (scope_in c_file []) truth integer → ⊥
+not_fitting (inl p) = truth_is_not_integer p
 not_fitting (inr (inl p)) = p
 not_fitting (inr (inr p)) = p
 
@@ -229,15 +229,15 @@ n_is_there = twice_parameter 0 refl (behind (here refl))
 abbrev x_text : Ast
 x_text = tree.Text 20 (codes "x")
 
-whole_is_not_string : whole ≡ string → ⊥
-whole_is_not_string p = true≢false (ap is_whole p)
+integer_is_not_string : integer ≡ string → ⊥
+integer_is_not_string p = true≢false (ap is_whole p)
 
-not_fitting_whole : Fits bare whole string → ⊥
-not_fitting_whole (inl p) = whole_is_not_string p
+not_fitting_whole : Fits bare integer string → ⊥
+not_fitting_whole (inl p) = integer_is_not_string p
 not_fitting_whole (inr (inl p)) = p
 not_fitting_whole (inr (inr p)) = p
 
-branch_offends : Offends bare (Some whole) (tree.If 0 (tree.Name (word 3 (codes "True"))) (digit 13 1) x_text) (mismatch 20)
+branch_offends : Offends bare (Some integer) (tree.If 0 (tree.Name (word 3 (codes "True"))) (digit 13 1) x_text) (mismatch 20)
 branch_offends =
     stands (fold_if ℕ first_step 0 (tree.Name (word 3 (codes "True"))) (digit 13 1) x_text)
     (else_branch (tree.Name (word 3 (codes "True"))) (digit 13 1) x_text
@@ -247,5 +247,5 @@ branch_offends =
 y_offends : Shows bare (tree.Name (word 8 (codes "y"))) (anything bare)
 y_offends = as_anything (stands (fold_name ℕ first_step (word 8 (codes "y"))) (unknown_name refl))
 
-x_fits : Elaborates (inside bare (codes "x") (anything bare)) (Some whole) (tree.Name (word 13 (codes "x"))) (local 0) (anything bare)
+x_fits : Elaborates (inside bare (codes "x") (anything bare)) (Some integer) (tree.Name (word 13 (codes "x"))) (local 0) (anything bare)
 x_fits = name refl (inr (inr (omega arith)))

@@ -1,6 +1,6 @@
 -- What is judged of a tree, from what is judged of its parts.
 use Rattle.std.proofs.Common.{◌≡◌, ℕ, ℤ, Bool, true, ap, sym, subst, ◌∙◌, List, Option, Some, None, Result, Ok, Err, refl, inl, inr, arith}
-use Rattle.txs_values.specs.Value.{Ty, whole, string, num, text, fits}
+use Rattle.txs_values.specs.Value.{Ty, integer, string, num, text, fits}
 use Rattle.txs_values.specs.View.{ty_of}
 use Rattle.txs_terms.specs.declared.expr.Expr as rust_expr
 use Rattle.txs_terms.specs.Expr.{Expr, val}
@@ -102,11 +102,11 @@ fault_of_parts at scope want a P f h into out = by f h
 -- ---- leaves
 
 pub judges_number : (at place : ℕ) (scope : Scope) (want : Option Ty) (n : ℤ) (e : rust_expr.Expr) (r : Result Typed TypeFault) → expr_of e ≡ val (num n) → fits n ≡ true
-    → Whole scope want at whole (Ok e) r → JudgesAt at scope want (tree.Number place n) r
+    → Whole scope want at integer (Ok e) r → JudgesAt at scope want (tree.Number place n) r
 judges_number at place scope want n e r seen ok h =
-    finish_whole at scope want (tree.Number place n) whole (Ok e) r (fold_number Bool whole_step place n) h
+    finish_whole at scope want (tree.Number place n) integer (Ok e) r (fold_number Bool whole_step place n) h
     (λ x p. (
-      λ w q. subst (λ y. Elaborates scope w (tree.Number place n) y whole) (sym (ap expr_of (sym (ok_injective p)) ∙ seen)) (number q),
+      λ w q. subst (λ y. Elaborates scope w (tree.Number place n) y integer) (sym (ap expr_of (sym (ok_injective p)) ∙ seen)) (number q),
       fold_number Bool ints_step place n ∙ ok,
     ))
     (λ f p. absurd (ok≢err p))

@@ -1,6 +1,6 @@
 -- What offends in a tree, by its outermost form.
 use Rattle.std.proofs.Common.{◌≡◌, ◌≢◌, ◌⊎◌, ℕ, Bool, sym, subst, ◌∙◌, List, length, slice_get, Option, Some, None, refl, inl, inr, true≢false}
-use Rattle.txs_values.specs.Value.{Ty, whole, truth}
+use Rattle.txs_values.specs.Value.{Ty, integer, truth}
 use Rattle.txs_terms.specs.Expr.{Expr}
 use Rattle.txs_syntax.specs.declared.ast.Op.{Op}
 use Rattle.txs_syntax.specs.declared.ast.Name.{Name}
@@ -24,7 +24,7 @@ pub data Inside (at : ℕ) (scope : Scope) : Option Ty → Ast-F Ast → Offence
       → Inside at scope want (Ast-F.Call x args) o
   i_stray : {want : Option Ty} (x : Name) (args : List Ast) (i : ℕ) (a : Ast) (o : Offence) → IsMiscalled scope x args → slice_get args i ≡ Some a
       → Offends scope (Some (anything scope)) a o → Inside at scope want (Ast-F.Call x args) o
-  i_negated : {want : Option Ty} (sign : ℕ) (a : Ast) (o : Offence) → Offends scope (Some whole) a o → Inside at scope want (Ast-F.Negate sign a) o
+  i_negated : {want : Option Ty} (sign : ℕ) (a : Ast) (o : Offence) → Offends scope (Some integer) a o → Inside at scope want (Ast-F.Negate sign a) o
   i_left : {want : Option Ty} (p : Op) (a b : Ast) (o : Offence) (need t : Ty) (make : Expr → Expr → Expr) → Operator p need t make → Offends scope (Some need) a o
       → Inside at scope want (Ast-F.Binary p a b) o
   i_right : {want : Option Ty} (p : Op) (a b : Ast) (o : Offence) (need t : Ty) (make : Expr → Expr → Expr) → Operator p need t make → Offends scope (Some need) b o

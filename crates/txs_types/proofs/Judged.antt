@@ -2,7 +2,7 @@
 use Rattle.std.proofs.Common.{◌≡◌, ◌≢◌, ◌⊎◌, ℕ, Bool, true, false, cond, ap, sym, subst, ◌∙◌, List, [], ◌∷◌, length, map, slice_get, Option, Some, None, refl, inl, inr, suc, arith}
 use Rattle.std.proofs.lemmas.Bool.Decides.{eqb_tells}
 use Rattle.std.proofs.lemmas.Bool.{cases_lt}
-use Rattle.txs_values.specs.Value.{Ty, whole, truth, string, named, num, text, cons, no_value}
+use Rattle.txs_values.specs.Value.{Ty, integer, truth, string, named, num, text, cons, no_value}
 use Rattle.txs_terms.specs.Expr.{Expr, val, one, two, negate, choose, let_in, apply, build, equal, both, either, is_made_by, select, negation, to_text, from_text, len, char_at, plus, minus, times, divide, remainder, concat, differ, less_than, at_most, more_than, at_least}
 use Rattle.txs_terms.specs.View.{gathered}
 use Rattle.txs_syntax.specs.declared.ast.Op.{Op}
@@ -23,31 +23,31 @@ use Rattle.txs_types.proofs.NotBoth.{none≢some}
 -- ---- types
 
 abbrev tag : Ty → ℕ
-tag whole = 0
+tag integer = 0
 tag truth = 1
 tag string = 2
 tag (named k) = 3
 
 abbrev place : Ty → ℕ
-place whole = 0
+place integer = 0
 place truth = 0
 place string = 0
 place (named k) = k
 
 same_tag : (s t : Ty) → tag s ≡ tag t → place s ≡ place t → s ≡ t
-same_tag whole whole p q = refl
-same_tag whole truth p q = absurd (omega (arith, p))
-same_tag whole string p q = absurd (omega (arith, p))
-same_tag whole (named k) p q = absurd (omega (arith, p))
-same_tag truth whole p q = absurd (omega (arith, p))
+same_tag integer integer p q = refl
+same_tag integer truth p q = absurd (omega (arith, p))
+same_tag integer string p q = absurd (omega (arith, p))
+same_tag integer (named k) p q = absurd (omega (arith, p))
+same_tag truth integer p q = absurd (omega (arith, p))
 same_tag truth truth p q = refl
 same_tag truth string p q = absurd (omega (arith, p))
 same_tag truth (named k) p q = absurd (omega (arith, p))
-same_tag string whole p q = absurd (omega (arith, p))
+same_tag string integer p q = absurd (omega (arith, p))
 same_tag string truth p q = absurd (omega (arith, p))
 same_tag string string p q = refl
 same_tag string (named k) p q = absurd (omega (arith, p))
-same_tag (named j) whole p q = absurd (omega (arith, p))
+same_tag (named j) integer p q = absurd (omega (arith, p))
 same_tag (named j) truth p q = absurd (omega (arith, p))
 same_tag (named j) string p q = absurd (omega (arith, p))
 same_tag (named j) (named k) p q = ap named q
@@ -59,7 +59,7 @@ decide_same s t = elim (eqb_tells (tag s) (tag t)) [
 ]
 
 decide_unknown : (scope : Scope) (t : Ty) → IsUnknown scope t ⊎ (IsUnknown scope t → ⊥)
-decide_unknown scope whole = inr (λ p. p)
+decide_unknown scope integer = inr (λ p. p)
 decide_unknown scope truth = inr (λ p. p)
 decide_unknown scope string = inr (λ p. p)
 decide_unknown scope (named k) = elim (cases_lt k scope.types) [ inl p ↦ inr (λ q. omega (arith, p, q)) | inr p ↦ inl p ]
@@ -150,7 +150,7 @@ makes (named_selector c j k t) needs es p h =
 makes named_not needs es p h = inr (with_one named_not es (one negation) truth (λ want e. not_made want e) (h ∙ ap length (sym (some_injective p))))
 makes named_to_string needs es p h = inr (with_one named_to_string es (one to_text) string (λ want e. to_string_made want e) (h ∙ ap length (sym (some_injective p))))
 makes named_from_string needs es p h = inl refl
-makes named_len needs es p h = inr (with_one named_len es (one len) whole (λ want e. len_made want e) (h ∙ ap length (sym (some_injective p))))
+makes named_len needs es p h = inr (with_one named_len es (one len) integer (λ want e. len_made want e) (h ∙ ap length (sym (some_injective p))))
 makes named_at needs es p h =
     let o = two_exprs es (h ∙ ap length (sym (some_injective p))) in
     inr (two char_at o.0 o.1, string, λ want. subst (λ l. Makes want named_at l (two char_at o.0 o.1) string) (sym o.2) (at_made want o.0 o.1))
@@ -228,16 +228,16 @@ sort op.Or = inl (truth, truth, either, or_operator)
 sort op.And = inl (truth, truth, both, and_operator)
 sort op.Equal = inr (equal, equal_comparison)
 sort op.Different = inr (two differ, different_comparison)
-sort op.Less = inl (whole, truth, two less_than, less_operator)
-sort op.AtMost = inl (whole, truth, two at_most, at_most_operator)
-sort op.More = inl (whole, truth, two more_than, more_operator)
-sort op.AtLeast = inl (whole, truth, two at_least, at_least_operator)
+sort op.Less = inl (integer, truth, two less_than, less_operator)
+sort op.AtMost = inl (integer, truth, two at_most, at_most_operator)
+sort op.More = inl (integer, truth, two more_than, more_operator)
+sort op.AtLeast = inl (integer, truth, two at_least, at_least_operator)
 sort op.Join = inl (string, string, two concat, join_operator)
-sort op.Plus = inl (whole, whole, two plus, plus_operator)
-sort op.Minus = inl (whole, whole, two minus, minus_operator)
-sort op.Times = inl (whole, whole, two times, times_operator)
-sort op.Divide = inl (whole, whole, two divide, divide_operator)
-sort op.Remainder = inl (whole, whole, two remainder, remainder_operator)
+sort op.Plus = inl (integer, integer, two plus, plus_operator)
+sort op.Minus = inl (integer, integer, two minus, minus_operator)
+sort op.Times = inl (integer, integer, two times, times_operator)
+sort op.Divide = inl (integer, integer, two divide, divide_operator)
+sort op.Remainder = inl (integer, integer, two remainder, remainder_operator)
 
 judge_operated : (o : Op) (a b : Child) (at : ℕ) (scope : Scope) (want : Option Ty) (need t : Ty) (make : Expr → Expr → Expr) → Operator o need t make
     → Result at scope want (tree.Binary o a.0 b.0)
@@ -281,9 +281,9 @@ judge_binary o a b at scope want = elim (sort o) [
 ]
 
 judge_negate : (sign : ℕ) (a : Child) → Judged (tree.Negate sign a.0)
-judge_negate sign a at scope want = elim (verdict a.0 a.1 scope (Some whole)) [
+judge_negate sign a at scope want = elim (verdict a.0 a.1 scope (Some integer)) [
   | inr w ↦ inr (w.0, side_negated a.0 w.1)
-  | inl d ↦ finish at scope want (tree.Negate sign a.0) (one negate d.0) whole (fold_negate Bool whole_step sign a.0) (λ w q. negated a.0 d.2 q)
+  | inl d ↦ finish at scope want (tree.Negate sign a.0) (one negate d.0) integer (fold_negate Bool whole_step sign a.0) (λ w q. negated a.0 d.2 q)
 ]
 
 judge_group : (bracket : ℕ) (a : Child) → Judged (tree.Group bracket a.0)
@@ -324,7 +324,7 @@ judge_let l x a b at scope want = elim (verdict a.0 a.1 scope None) [
 
 judge_form : (l : Ast-F Child) → Judged (roll-Ast (map-Ast Child Ast (λ c. c.0) l))
 judge_form (Ast-F.Number at n) =
-    subst Judged (sym (tree.rolls-Number at n)) (λ place scope want. finish place scope want (tree.Number at n) (val (num n)) whole (fold_number Bool whole_step at n) (λ w q. number q))
+    subst Judged (sym (tree.rolls-Number at n)) (λ place scope want. finish place scope want (tree.Number at n) (val (num n)) integer (fold_number Bool whole_step at n) (λ w q. number q))
 judge_form (Ast-F.Text at s) =
     subst Judged (sym (tree.rolls-Text at s)) (λ place scope want. finish place scope want (tree.Text at s) (val (text s)) string (fold_text Bool whole_step at s) (λ w q. quoted q))
 judge_form (Ast-F.Name x) = subst Judged (sym (tree.rolls-Name x)) (λ place scope want. judge_name x place scope want (meaning scope x.text) refl)

@@ -1,6 +1,6 @@
 -- A tree that means an expression has no offence.
 use Rattle.std.proofs.Common.{◌≡◌, ◌≢◌, ◌⊎◌, ℕ, ℤ, Bool, true, false, cond, ap, sym, subst, ◌∙◌, List, ◌∷◌, length, slice_get, Option, Some, None, refl, inl, inr, zero, suc, true≢false}
-use Rattle.txs_values.specs.Value.{Ty, whole, truth}
+use Rattle.txs_values.specs.Value.{Ty, integer, truth}
 use Rattle.txs_terms.specs.Expr.{Expr}
 use Rattle.txs_syntax.specs.declared.ast.Op.{Op}
 use Rattle.txs_syntax.specs.declared.ast.Name.{Name}
@@ -31,7 +31,7 @@ data Offending (scope : Scope) : Option Ty → Ast-F Ast → Type 0 where
   f_argument : {want : Option Ty} (need : Option Ty) (x : Name) (args : List Ast) (m : Meaning) (needs : List (Option Ty)) (i : ℕ) (a : Ast) (o : Offence)
       → called scope x.text ≡ Some (m, needs) → slice_get args i ≡ Some a → slice_get needs i ≡ Some need → Offends scope need a o → Offending scope want (Ast-F.Call x args)
   f_stray : {want : Option Ty} (x : Name) (args : List Ast) → IsMiscalled scope x args → Offending scope want (Ast-F.Call x args)
-  f_negated : {want : Option Ty} (at : ℕ) (a : Ast) (o : Offence) → Offends scope (Some whole) a o → Offending scope want (Ast-F.Negate at a)
+  f_negated : {want : Option Ty} (at : ℕ) (a : Ast) (o : Offence) → Offends scope (Some integer) a o → Offending scope want (Ast-F.Negate at a)
   f_left : {want : Option Ty} (p : Op) (a b : Ast) (o : Offence) (need t : Ty) (make : Expr → Expr → Expr) → Operator p need t make → Offends scope (Some need) a o
       → Offending scope want (Ast-F.Binary p a b)
   f_right : {want : Option Ty} (p : Op) (a b : Ast) (o : Offence) (need t : Ty) (make : Expr → Expr → Expr) → Operator p need t make → Offends scope (Some need) b o
@@ -194,7 +194,7 @@ no_call h ds each made (f_argument need x args' m' needs' i a o k g g' w) =
     clean (each i a need g (ap (λ r. slice_get r.1 i) (some_injective (sym h ∙ k)) ∙ g')) w
 no_call {m = m} {needs = needs} h ds each made (f_stray x args' miscalled) = miscalled m needs h (as_many ds)
 
-no_negated : {scope : Scope} {want : Option Ty} {at : ℕ} {a : Ast} → Clean scope (Some whole) a → Offending scope want (Ast-F.Negate at a) → ⊥
+no_negated : {scope : Scope} {want : Option Ty} {at : ℕ} {a : Ast} → Clean scope (Some integer) a → Offending scope want (Ast-F.Negate at a) → ⊥
 no_negated none (f_negated at a o w) = clean none w
 
 no_operated : {scope : Scope} {want : Option Ty} {p : Op} {a b : Ast} {need t : Ty} {make : Expr → Expr → Expr} → Operator p need t make

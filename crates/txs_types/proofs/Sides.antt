@@ -1,6 +1,6 @@
 -- What is judged of operators, choices and bindings.
 use Rattle.std.proofs.Common.{◌≡◌, ◌⊎◌, ℕ, Bool, true, false, cond, ◌&&◌, ap, sym, subst, ◌∙◌, Option, Some, None, Result, Ok, Err, refl, inl, inr, true≢false}
-use Rattle.txs_values.specs.Value.{Ty, whole, truth}
+use Rattle.txs_values.specs.Value.{Ty, integer, truth}
 use Rattle.txs_values.specs.View.{ty_of}
 use Rattle.txs_terms.specs.declared.expr.Expr as rust_expr
 use Rattle.txs_terms.specs.Expr.{Expr, one, negate, choose, let_in}
@@ -148,14 +148,14 @@ part_node at scope want here G P form (Err f) r not h m good into out =
     never None o k = k
     never (Some t) o k = not k.2
 
-negate_inside : {at : ℕ} {scope : Scope} {want : Option Ty} {sign : ℕ} {a : Ast} {o : Offence} → Inside at scope want (Ast-F.Negate sign a) o → Offends scope (Some whole) a o
+negate_inside : {at : ℕ} {scope : Scope} {want : Option Ty} {sign : ℕ} {a : Ast} {o : Offence} → Inside at scope want (Ast-F.Negate sign a) o → Offends scope (Some integer) a o
 negate_inside (i_negated sign a o w) = w
 
 pub negate_node : (at sign : ℕ) (scope : Scope) (want : Option Ty) (a : Ast) (x : Result Typed TypeFault) (made : Result rust_expr.Expr TypeFault) (r : Result Typed TypeFault)
-    → Judges scope (Some whole) a x → Made (λ (t : Typed). one negate (expr_of t.expr)) x made → Whole scope want at whole made r → JudgesAt at scope want (tree.Negate sign a) r
+    → Judges scope (Some integer) a x → Made (λ (t : Typed). one negate (expr_of t.expr)) x made → Whole scope want at integer made r → JudgesAt at scope want (tree.Negate sign a) r
 negate_node at sign scope want a x made r h m w =
-    whole_node at scope want (tree.Negate sign a) whole (Means scope (Some whole) a) (Offends scope (Some whole) a) (λ (t : Typed). one negate (expr_of t.expr)) x made r
-    (fold_negate Bool whole_step sign a) (tells_of scope (Some whole) a x h) m w
+    whole_node at scope want (tree.Negate sign a) integer (Means scope (Some integer) a) (Offends scope (Some integer) a) (λ (t : Typed). one negate (expr_of t.expr)) x made r
+    (fold_negate Bool whole_step sign a) (tells_of scope (Some integer) a x h) m w
     (λ t g. (λ n q. negated a g.0 q, fold_negate Bool ints_step sign a ∙ g.1))
     (λ n o p. side_negated a p)
     (λ p k o i. negate_inside (subst (λ l. Inside at scope want l o) (tree.outs-Negate sign a) i))
@@ -172,11 +172,11 @@ is_operator op.AtMost need h = subst (λ n. Operator op.AtMost n truth (make op.
 is_operator op.More need h = subst (λ n. Operator op.More n truth (make op.More)) (some_injective h) more_operator
 is_operator op.AtLeast need h = subst (λ n. Operator op.AtLeast n truth (make op.AtLeast)) (some_injective h) at_least_operator
 is_operator op.Join need h = subst (λ n. Operator op.Join n (outcome op.Join) (make op.Join)) (some_injective h) join_operator
-is_operator op.Plus need h = subst (λ n. Operator op.Plus n whole (make op.Plus)) (some_injective h) plus_operator
-is_operator op.Minus need h = subst (λ n. Operator op.Minus n whole (make op.Minus)) (some_injective h) minus_operator
-is_operator op.Times need h = subst (λ n. Operator op.Times n whole (make op.Times)) (some_injective h) times_operator
-is_operator op.Divide need h = subst (λ n. Operator op.Divide n whole (make op.Divide)) (some_injective h) divide_operator
-is_operator op.Remainder need h = subst (λ n. Operator op.Remainder n whole (make op.Remainder)) (some_injective h) remainder_operator
+is_operator op.Plus need h = subst (λ n. Operator op.Plus n integer (make op.Plus)) (some_injective h) plus_operator
+is_operator op.Minus need h = subst (λ n. Operator op.Minus n integer (make op.Minus)) (some_injective h) minus_operator
+is_operator op.Times need h = subst (λ n. Operator op.Times n integer (make op.Times)) (some_injective h) times_operator
+is_operator op.Divide need h = subst (λ n. Operator op.Divide n integer (make op.Divide)) (some_injective h) divide_operator
+is_operator op.Remainder need h = subst (λ n. Operator op.Remainder n integer (make op.Remainder)) (some_injective h) remainder_operator
 
 is_comparison : (o : Op) → operand o ≡ None → Comparison o (make o) × (truth ≡ outcome o)
 is_comparison op.Or h = absurd (none≢some (sym h))

@@ -1,7 +1,7 @@
 -- The types of a file in which no type name is unknown: all are of its table, and have defaults.
 use Rattle.std.proofs.Common.{◌≡◌, ◌<◌, ◌+◌, ℕ, zero, suc, Bool, true, false, ◌||◌, cond, bytes_eq, codes, ap, sym, subst, ◌∙◌, List, [], ◌∷◌, ◌++◌, length, map, slice_get, Option, Some, None, refl, arith, true≢false}
 use Rattle.std.proofs.lemmas.Slice.Eq.{bytes_eq-Decides}
-use Rattle.txs_values.specs.Value.{Ty, Value, whole, truth, string, named, Field, Table, Place, place_in, place_from, field_types}
+use Rattle.txs_values.specs.Value.{Ty, Value, integer, truth, string, named, Field, Table, Place, place_in, place_from, field_types}
 use Rattle.txs_values.specs.Default.{default_if}
 use Rattle.txs_terms.specs.Typed.{IsType, AreTypes}
 use Rattle.txs_syntax.specs.declared.ast.Name.{Name}
@@ -45,7 +45,7 @@ number_below x k (n ∷ ns) h =
     below_by (bytes_eq n.text x) (is_among x (map (λ n. n.text) ns)) k (type_number x (suc k) ns) (length ns) h (λ r. number_below x (suc k) ns r)
 
 known_by : (table : Table) (a b c : Bool) (k : ℕ) → (a ≡ false → b ≡ false → c ≡ false → k < length table)
-    → IsType table (cond a whole (cond b truth (cond c string (named k))))
+    → IsType table (cond a integer (cond b truth (cond c string (named k))))
 known_by table true b c k h = tt
 known_by table false true c k h = tt
 known_by table false false true k h = tt

@@ -1,6 +1,6 @@
 -- A tree means one expression, of one type.
 use Rattle.std.proofs.Common.{◌≡◌, ℕ, ℤ, true, false, ap, sym, subst, ◌∙◌, List, ◌∷◌, Option, Some, None, refl, true≢false}
-use Rattle.txs_values.specs.Value.{Ty, whole, truth, string, num, text}
+use Rattle.txs_values.specs.Value.{Ty, integer, truth, string, num, text}
 use Rattle.txs_terms.specs.Expr.{Expr, val, one, negate, choose, let_in}
 use Rattle.txs_syntax.specs.declared.ast.Op.{Op}
 use Rattle.txs_syntax.specs.declared.ast.Name.{Name}
@@ -57,13 +57,13 @@ made_of {m' = m'} {a = a} {a' = a'} {b = b} p q r = ap (λ m. m a b) p ∙ (ap (
 
 -- what the derivation of a tree is made of, by the tree's outermost form
 pub data Layer (scope : Scope) : Option Ty → Ast-F Ast → Expr → Ty → Type 0 where
-  l_number : {want : Option Ty} (at : ℕ) (n : ℤ) → Layer scope want (Ast-F.Number at n) (val (num n)) whole
+  l_number : {want : Option Ty} (at : ℕ) (n : ℤ) → Layer scope want (Ast-F.Number at n) (val (num n)) integer
   l_quoted : {want : Option Ty} (at : ℕ) (s : List ℕ) → Layer scope want (Ast-F.Text at s) (val (text s)) string
   l_name : {want : Option Ty} (x : Name) (e : Expr) (t : Ty) → meaning scope x.text ≡ Some (e, t) → Layer scope want (Ast-F.Name x) e t
   l_call : {want : Option Ty} (x : Name) (args : List Ast) (m : Meaning) (needs : List (Option Ty)) (es : List Expr) (e : Expr) (t : Ty)
       → called scope x.text ≡ Some (m, needs) → ElaboratesEach scope needs args es → Makes want m es e t → Layer scope want (Ast-F.Call x args) e t
-  l_negated : {want : Option Ty} (at : ℕ) (a : Ast) (e : Expr) (s : Ty) → Elaborates scope (Some whole) a e s
-      → Layer scope want (Ast-F.Negate at a) (one negate e) whole
+  l_negated : {want : Option Ty} (at : ℕ) (a : Ast) (e : Expr) (s : Ty) → Elaborates scope (Some integer) a e s
+      → Layer scope want (Ast-F.Negate at a) (one negate e) integer
   l_operated : {want : Option Ty} (o : Op) (a b : Ast) (e f : Expr) (need q r t : Ty) (make : Expr → Expr → Expr) → Operator o need t make
       → Elaborates scope (Some need) a e q → Elaborates scope (Some need) b f r → Layer scope want (Ast-F.Binary o a b) (make e f) t
   l_compared : {want : Option Ty} (o : Op) (a b : Ast) (e f : Expr) (s r : Ty) (make : Expr → Expr → Expr) → Comparison o make
@@ -106,7 +106,7 @@ Same scope want a e s = (f : Expr) (t : Ty) → Elaborates scope want a f t → 
 abbrev SameEach : Scope → List (Option Ty) → List Ast → List Expr → Type 0
 SameEach scope needs args es = (fs : List Expr) → ElaboratesEach scope needs args fs → es ≡ fs
 
-pub of_number : {scope : Scope} {want : Option Ty} {at : ℕ} {n : ℤ} {e : Expr} {t : Ty} → Layer scope want (Ast-F.Number at n) e t → (val (num n) ≡ e) × (whole ≡ t)
+pub of_number : {scope : Scope} {want : Option Ty} {at : ℕ} {n : ℤ} {e : Expr} {t : Ty} → Layer scope want (Ast-F.Number at n) e t → (val (num n) ≡ e) × (integer ≡ t)
 of_number (l_number at n) = (refl, refl)
 
 pub of_quoted : {scope : Scope} {want : Option Ty} {at : ℕ} {s : List ℕ} {e : Expr} {t : Ty} → Layer scope want (Ast-F.Text at s) e t → (val (text s) ≡ e) × (string ≡ t)
@@ -123,8 +123,8 @@ of_call {scope = scope} {want = want} {m = m} h each made (l_call x args m' need
     let n' = subst (λ r. Makes want r.0 fs f t) same n in
     same_made made (subst (λ es. Makes want m es f t) (sym alike) n')
 
-pub of_negated : {scope : Scope} {want : Option Ty} {at : ℕ} {a : Ast} {e f : Expr} {r t : Ty} → Same scope (Some whole) a e r
-    → Layer scope want (Ast-F.Negate at a) f t → (one negate e ≡ f) × (whole ≡ t)
+pub of_negated : {scope : Scope} {want : Option Ty} {at : ℕ} {a : Ast} {e f : Expr} {r t : Ty} → Same scope (Some integer) a e r
+    → Layer scope want (Ast-F.Negate at a) f t → (one negate e ≡ f) × (integer ≡ t)
 of_negated same (l_negated at a f s d) = (ap (one negate) (same f s d).0, refl)
 
 pub of_operated : {scope : Scope} {want : Option Ty} {o : Op} {a b : Ast} {e f g : Expr} {need q r t u : Ty} {make : Expr → Expr → Expr} → Operator o need t make

@@ -1,7 +1,7 @@
 -- What a tree means over definitions is well typed.
 use Rattle.std.proofs.Common.{◌≡◌, ℕ, Bool, true, ◌&&◌, cond, ap, sym, subst, ◌∙◌, List, [], ◌∷◌, ◌++◌, length, map, Option, Some, None, refl, inl, inr, arith, eq-eqb}
 use Rattle.std.proofs.lemmas.Bool.{and_parts}
-use Rattle.txs_values.specs.Value.{Ty, whole, truth, string, named, num, text, cons, no_value, Constructor, Table, place_of, field_types, fields_in, has_type, has_fields}
+use Rattle.txs_values.specs.Value.{Ty, integer, truth, string, named, num, text, cons, no_value, Constructor, Table, place_of, field_types, fields_in, has_type, has_fields}
 use Rattle.txs_terms.specs.Expr.{Expr, val, slot, local, one, negate}
 use Rattle.txs_terms.specs.View.{gathered}
 use Rattle.txs_terms.specs.Typed.{IsType, AreTypes, negate_of, negation_of, to_text_of, from_text_of, len_of, made_by_of, select_of, plus_of, minus_of, times_of, divide_of, remainder_of, concat_of, differ_of, less_of, at_most_of, more_of, at_least_of, char_of, Of, val_of, slot_of, local_of, constant_of, one_of, two_of, equal_of, both_of, either_of, choose_of, apply_of, build_of, let_of, Ofs, none_of, more_of'}
@@ -39,7 +39,7 @@ abbrev pub TypedAs : Definitions → Scope → Option Ty → Expr → Ty → Typ
 TypedAs d scope want e t = Typed d scope e t × Exact want t
 
 is_known : (d : Definitions) (scope : Scope) (t : Ty) → scope.types ≡ length d.table → IsType d.table t → IsUnknown scope t → ⊥
-is_known d scope whole n p u = u
+is_known d scope integer n p u = u
 is_known d scope truth n p u = u
 is_known d scope string n p u = u
 is_known d scope (named k) n p u = omega (arith, n, p, u)
@@ -177,7 +177,7 @@ made_typed d scope (not_made want e) g need p = (one_of negation_of (at_need d s
 made_typed d scope (to_string_made want e) g need p = (one_of (to_text_of p.0.0) p.0.1.0.0, tt)
 made_typed d scope (from_string_made t e) g need p = (one_of (from_text_of t) (at_need d scope e string p.0.0 p.0.1), need)
 made_typed d scope (len_made want e) g need p = (one_of len_of (at_need d scope e string p.0.0 p.0.1), tt)
-made_typed d scope (at_made want e f) g need p = (two_of char_of (at_need d scope e string p.0.0 p.0.1) (at_need d scope f whole p.1.0.0 p.1.0.1), tt)
+made_typed d scope (at_made want e f) g need p = (two_of char_of (at_need d scope e string p.0.0 p.0.1) (at_need d scope f integer p.1.0.0 p.1.0.1), tt)
 
 -- what is called by a name is what the name means in the file
 abbrev IsCalled : Definitions → Meaning × List (Option Ty) → Type 0
@@ -266,7 +266,7 @@ mutual
   pub typed : (d : Definitions) {scope : Scope} {want : Option Ty} {a : Ast} {e : Expr} {t : Ty} → Elaborates scope want a e t
       → Sound d scope → IsNeed d.table want → HasInts a → TypedAs d scope want e t
   typed d {scope = scope} {want = want} (number {at = at} {n = n} p) ok need h =
-      is_whole d scope want (val (num n)) whole ok need p (val_of (sym (fold_number Bool ints_step at n) ∙ h), tt)
+      is_whole d scope want (val (num n)) integer ok need p (val_of (sym (fold_number Bool ints_step at n) ∙ h), tt)
   typed d {scope = scope} {want = want} (quoted {s = s} p) ok need h = is_whole d scope want (val (text s)) string ok need p (val_of refl, tt)
   typed d {scope = scope} {want = want} (name {x = x} {e = e} {t = t} m p) ok need h = is_whole d scope want e t ok need p (name_typed d scope x.text e t ok m)
   typed d {scope = scope} {want = want} (call {x = x} args {m = m} {needs = needs} {es = es} {e = e} {t = t} k ds n p) ok need h =
@@ -274,7 +274,7 @@ mutual
       let each = typed_each d ds ok (subst (Takes d) c.1 (takes_types d m c.0)) (sym (fold_call Bool ints_step x args) ∙ h) in
       is_whole d scope want e t ok need p (made_typed d scope n c.0 need (subst (λ r. IsGiven d scope r es) (sym c.1) each))
   typed d {scope = scope} {want = want} (negated {at = at} a {e = e} {s = s} d1 p) ok need h =
-      is_whole d scope want (one negate e) whole ok need p (one_of negate_of (at_need d scope e whole s (typed d d1 ok tt (ints_negate at a h))), tt)
+      is_whole d scope want (one negate e) integer ok need p (one_of negate_of (at_need d scope e integer s (typed d d1 ok tt (ints_negate at a h))), tt)
   typed d {scope = scope} {want = want} (operated {o = o} a b {e = e} {f = f} {need = n} {q = q} {r = r} {t = t} {make = make} k d1 d2 p) ok need h =
       let i = ints_binary o a b h in
       let types = operator_types d.table k in

@@ -1,6 +1,6 @@
 -- Which expression, of which type, a tree means where it is needed at a type, or at none.
 use Rattle.std.specs.Prelude.{◌≡◌, ℕ, ℤ, Bool, true, false, not, ◌&&◌, bytes_eq, codes, List, [], ◌∷◌, Option, Some, None}
-use Rattle.txs_values.specs.Value.{Ty, whole, truth, string, named, num, text, cons, no_value, fits}
+use Rattle.txs_values.specs.Value.{Ty, integer, truth, string, named, num, text, cons, no_value, fits}
 use Rattle.txs_terms.specs.Expr.{Expr, val, one, two, equal, both, either, choose, apply, build, let_in, negate, negation, to_text, from_text, len, is_made_by, select, plus, minus, times, divide, remainder, concat, differ, less_than, at_most, more_than, at_least, char_at}
 use Rattle.txs_terms.specs.View.{gathered}
 use Rattle.txs_syntax.specs.declared.ast.Name.{Name}
@@ -21,16 +21,16 @@ Suits scope (Some s) t = Fits scope s t
 pub data Operator : Op → Ty → Ty → (Expr → Expr → Expr) → Type 0 where
   or_operator : Operator op.Or truth truth either
   and_operator : Operator op.And truth truth both
-  less_operator : Operator op.Less whole truth (two less_than)
-  at_most_operator : Operator op.AtMost whole truth (two at_most)
-  more_operator : Operator op.More whole truth (two more_than)
-  at_least_operator : Operator op.AtLeast whole truth (two at_least)
+  less_operator : Operator op.Less integer truth (two less_than)
+  at_most_operator : Operator op.AtMost integer truth (two at_most)
+  more_operator : Operator op.More integer truth (two more_than)
+  at_least_operator : Operator op.AtLeast integer truth (two at_least)
   join_operator : Operator op.Join string string (two concat)
-  plus_operator : Operator op.Plus whole whole (two plus)
-  minus_operator : Operator op.Minus whole whole (two minus)
-  times_operator : Operator op.Times whole whole (two times)
-  divide_operator : Operator op.Divide whole whole (two divide)
-  remainder_operator : Operator op.Remainder whole whole (two remainder)
+  plus_operator : Operator op.Plus integer integer (two plus)
+  minus_operator : Operator op.Minus integer integer (two minus)
+  times_operator : Operator op.Times integer integer (two times)
+  divide_operator : Operator op.Divide integer integer (two divide)
+  remainder_operator : Operator op.Remainder integer integer (two remainder)
 
 -- the operators whose sides are of equal types, whichever
 pub data Comparison : Op → (Expr → Expr → Expr) → Type 0 where
@@ -68,14 +68,14 @@ pub data Makes : Option Ty → Meaning → List Expr → Expr → Ty → Type 0 
   not_made : (want : Option Ty) (e : Expr) → Makes want named_not (e ∷ []) (one negation e) truth
   to_string_made : (want : Option Ty) (e : Expr) → Makes want named_to_string (e ∷ []) (one to_text e) string
   from_string_made : (t : Ty) (e : Expr) → Makes (Some t) named_from_string (e ∷ []) (one (from_text t) e) t
-  len_made : (want : Option Ty) (e : Expr) → Makes want named_len (e ∷ []) (one len e) whole
+  len_made : (want : Option Ty) (e : Expr) → Makes want named_len (e ∷ []) (one len e) integer
   at_made : (want : Option Ty) (e f : Expr) → Makes want named_at (e ∷ f ∷ []) (two char_at e f) string
 
 mutual
   -- the tree, needed at a type or at none, means this expression of this type
   pub data Elaborates : Scope → Option Ty → Ast → Expr → Ty → Type 0 where
-    number : {scope : Scope} {want : Option Ty} {at : ℕ} {n : ℤ} → Suits scope want whole
-        → Elaborates scope want (tree.Number at n) (val (num n)) whole
+    number : {scope : Scope} {want : Option Ty} {at : ℕ} {n : ℤ} → Suits scope want integer
+        → Elaborates scope want (tree.Number at n) (val (num n)) integer
     quoted : {scope : Scope} {want : Option Ty} {at : ℕ} {s : List ℕ} → Suits scope want string
         → Elaborates scope want (tree.Text at s) (val (text s)) string
     name : {scope : Scope} {want : Option Ty} {x : Name} {e : Expr} {t : Ty} → meaning scope x.text ≡ Some (e, t) → Suits scope want t
@@ -83,8 +83,8 @@ mutual
     call : {scope : Scope} {want : Option Ty} {x : Name} (args : List Ast) {m : Meaning} {needs : List (Option Ty)} {es : List Expr} {e : Expr} {t : Ty}
         → called scope x.text ≡ Some (m, needs) → ElaboratesEach scope needs args es → Makes want m es e t → Suits scope want t
         → Elaborates scope want (tree.Call x args) e t
-    negated : {scope : Scope} {want : Option Ty} {at : ℕ} (a : Ast) {e : Expr} {s : Ty} → Elaborates scope (Some whole) a e s → Suits scope want whole
-        → Elaborates scope want (tree.Negate at a) (one negate e) whole
+    negated : {scope : Scope} {want : Option Ty} {at : ℕ} (a : Ast) {e : Expr} {s : Ty} → Elaborates scope (Some integer) a e s → Suits scope want integer
+        → Elaborates scope want (tree.Negate at a) (one negate e) integer
     operated : {scope : Scope} {want : Option Ty} {o : Op} (a b : Ast) {e f : Expr} {need q r t : Ty} {make : Expr → Expr → Expr} → Operator o need t make
         → Elaborates scope (Some need) a e q → Elaborates scope (Some need) b f r → Suits scope want t
         → Elaborates scope want (tree.Binary o a b) (make e f) t

@@ -1,6 +1,6 @@
 -- What offends in a file, and the definitions that a file without an offence means.
 use Rattle.std.specs.Prelude.{◌≡◌, ◌⊎◌, ◌≤◌, ◌<◌, ℕ, suc, ◌+◌, Bool, true, false, ◌||◌, cond, bytes_eq, codes, List, [], ◌∷◌, ◌++◌, length, map, Option, Some, None, slice_get}
-use Rattle.txs_values.specs.Value.{Ty, whole, truth, string, named, Value, Constructor, Table, field_types, size, height, value_size_limit, value_height_limit}
+use Rattle.txs_values.specs.Value.{Ty, integer, truth, string, named, Value, Constructor, Table, field_types, size, height, value_size_limit, value_height_limit}
 use Rattle.txs_values.specs.Default.{default_if}
 use Rattle.txs_terms.specs.Expr.{Expr}
 use Rattle.txs_terms.specs.Defs.{Function, Constant, Definitions}
@@ -33,7 +33,7 @@ type_number x k (n ∷ ns) = cond (bytes_eq n.text x) k (type_number x (suc k) n
 -- the type of this name; of a name without a definition it is a type that is none of the file's
 abbrev pub type_of : List Name → List ℕ → Ty
 type_of types x =
-    cond (bytes_eq x (codes "Int")) whole
+    cond (bytes_eq x (codes "Int")) integer
     (cond (bytes_eq x (codes "Bool")) truth
     (cond (bytes_eq x (codes "String")) string (named (type_number x 0 types))))
 

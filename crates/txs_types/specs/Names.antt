@@ -1,6 +1,6 @@
 -- What a name may mean in an expression.
 use Rattle.std.specs.Prelude.{◌≡◌, ◌⊎◌, ◌≤◌, ℕ, suc, ◌+◌, Bool, true, false, cond, bytes_eq, codes, List, [], ◌∷◌, ◌++◌, length, map, Option, Some, None}
-use Rattle.txs_values.specs.Value.{Ty, whole, truth, string, named, bool, cons, no_value, Field, Constructor, Table, field_types}
+use Rattle.txs_values.specs.Value.{Ty, integer, truth, string, named, bool, cons, no_value, Field, Constructor, Table, field_types}
 use Rattle.txs_terms.specs.Expr.{Expr, val, slot, local, constant}
 use Rattle.txs_terms.specs.Defs.{Function, Constant, Definitions}
 
@@ -43,7 +43,7 @@ anything scope = named scope.types
 
 -- the type has no definition
 abbrev pub IsUnknown : Scope → Ty → Type 0
-IsUnknown scope whole = ⊥
+IsUnknown scope integer = ⊥
 IsUnknown scope truth = ⊥
 IsUnknown scope string = ⊥
 IsUnknown scope (named k) = scope.types ≤ k
@@ -112,7 +112,7 @@ takes named_not = Some (Some truth ∷ [])
 takes named_to_string = Some (None ∷ [])
 takes named_from_string = Some (Some string ∷ [])
 takes named_len = Some (Some string ∷ [])
-takes named_at = Some (Some string ∷ Some whole ∷ [])
+takes named_at = Some (Some string ∷ Some integer ∷ [])
 
 -- what is called by a name, and the arguments that it takes; no variable is called
 abbrev pub called : Scope → List ℕ → Option (Meaning × List (Option Ty))

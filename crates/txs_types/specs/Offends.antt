@@ -1,6 +1,6 @@
 -- What offends in a tree, and where.
 use Rattle.std.specs.Prelude.{◌≡◌, ◌≢◌, ℕ, Bool, true, false, cond, List, length, Option, Some, None, slice_get}
-use Rattle.txs_values.specs.Value.{Ty, whole, truth}
+use Rattle.txs_values.specs.Value.{Ty, integer, truth}
 use Rattle.txs_terms.specs.Expr.{Expr}
 use Rattle.txs_syntax.specs.declared.ast.Name.{Name}
 use Rattle.txs_syntax.specs.declared.ast.Op.{Op}
@@ -89,7 +89,7 @@ mutual
         → IsMiscalled scope x args → slice_get args i ≡ Some a
         → Offends scope (Some (anything scope)) a o → OffendsAt at scope want (tree.Call x args) o
     negated : {at : ℕ} {scope : Scope} {want : Option Ty} {minus : ℕ} (a : Ast) {o : Offence}
-        → Offends scope (Some whole) a o → OffendsAt at scope want (tree.Negate minus a) o
+        → Offends scope (Some integer) a o → OffendsAt at scope want (tree.Negate minus a) o
     -- a side of an operator
     left : {at : ℕ} {scope : Scope} {want : Option Ty} {p : Op} (a b : Ast) {o : Offence} {need t : Ty} {make : Expr → Expr → Expr} → Operator p need t make
         → Offends scope (Some need) a o → OffendsAt at scope want (tree.Binary p a b) o

@@ -1,6 +1,6 @@
 -- Within the crate: what the small functions of typing give.
 use Rattle.std.specs.Prelude.{◌≡◌, ◌⊎◌, ℕ, true, false, List, [], ◌∷◌, ◌++◌, Option, Some, None, Result, Ok, Err}
-use Rattle.txs_values.specs.Value.{Ty, whole, truth, string, named}
+use Rattle.txs_values.specs.Value.{Ty, integer, truth, string, named}
 use Rattle.txs_values.specs.View.{ty_of}
 use Rattle.txs_terms.specs.declared.expr.Expr as rust_expr
 use Rattle.txs_terms.specs.Expr.{Expr, two, equal, both, either, plus, minus, times, divide, remainder, concat, differ, less_than, at_most, more_than, at_least}
@@ -26,16 +26,16 @@ operand op.Or = Some truth
 operand op.And = Some truth
 operand op.Equal = None
 operand op.Different = None
-operand op.Less = Some whole
-operand op.AtMost = Some whole
-operand op.More = Some whole
-operand op.AtLeast = Some whole
+operand op.Less = Some integer
+operand op.AtMost = Some integer
+operand op.More = Some integer
+operand op.AtLeast = Some integer
 operand op.Join = Some string
-operand op.Plus = Some whole
-operand op.Minus = Some whole
-operand op.Times = Some whole
-operand op.Divide = Some whole
-operand op.Remainder = Some whole
+operand op.Plus = Some integer
+operand op.Minus = Some integer
+operand op.Times = Some integer
+operand op.Divide = Some integer
+operand op.Remainder = Some integer
 
 -- the type of what it gives
 abbrev pub outcome : Op → Ty
@@ -48,11 +48,11 @@ outcome op.AtMost = truth
 outcome op.More = truth
 outcome op.AtLeast = truth
 outcome op.Join = string
-outcome op.Plus = whole
-outcome op.Minus = whole
-outcome op.Times = whole
-outcome op.Divide = whole
-outcome op.Remainder = whole
+outcome op.Plus = integer
+outcome op.Minus = integer
+outcome op.Times = integer
+outcome op.Divide = integer
+outcome op.Remainder = integer
 
 -- the expression of it
 abbrev pub make : Op → Expr → Expr → Expr
@@ -155,7 +155,7 @@ call_type (named_selector c j k t) want = Some t
 call_type named_not want = Some truth
 call_type named_to_string want = Some string
 call_type named_from_string want = want
-call_type named_len want = Some whole
+call_type named_len want = Some integer
 call_type named_at want = Some string
 
 -- wherever a call has this type, it is this expression

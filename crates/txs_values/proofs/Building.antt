@@ -3,7 +3,7 @@ use Rattle.std.proofs.Common.{◌≡◌, ℕ, zero, suc, ◌+◌, List, [], ◌�
 use Rattle.std.specs.Prelude.{slice_get}
 use Rattle.txs_values.specs.Choices.{choice_of, choices_of, made_by, built_by, built}
 use Rattle.txs_values.specs.Default.{all_defaults, first_made, ranked, next_round, rounds}
-use Rattle.txs_values.specs.Value.{Ty, whole, truth, string, named, Value, cons, packed, Field, Constructor, TypeDef, Table, Place, place_of, place_in, place_from}
+use Rattle.txs_values.specs.Value.{Ty, integer, truth, string, named, Value, cons, packed, Field, Constructor, TypeDef, Table, Place, place_of, place_in, place_from}
 use Rattle.txs_values.proofs.Choosing.{chosen-named}
 
 -- ---- the constructors of a table by their numbers
@@ -76,7 +76,7 @@ ranked-by None p h v e = absurd (cc)
 ranked-by (Some r) p h v e = ap (λ (q : Option (Option Value)). elim q [ None ↦ None | Some s ↦ s ]) (h v (ap Some e))
 
 ranked-more : (os more : List (Option Value)) → Keeps os more → Refines (ranked os) (ranked more)
-ranked-more os more h whole v e = e
+ranked-more os more h integer v e = e
 ranked-more os more h truth v e = e
 ranked-more os more h string v e = e
 ranked-more os more h (named k) v e = ranked-by (slice_get os k) (slice_get more k) (h k) v e
@@ -172,7 +172,7 @@ built-by-named go table os h s k (Some (Some w)) x v e = ap Some (built-made go 
 
 pub built-ranked : (n : ℕ) (table : Table) (os : List (Option Value)) → AreMade table os os → Refines (built n table (choices_of os)) (ranked os)
 built-ranked zero table os s t v e = absurd (cc)
-built-ranked (suc n) table os s whole v e = e
+built-ranked (suc n) table os s integer v e = e
 built-ranked (suc n) table os s truth v e = e
 built-ranked (suc n) table os s string v e = e
 built-ranked (suc n) table os s (named k) v e =

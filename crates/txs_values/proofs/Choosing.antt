@@ -3,7 +3,7 @@ use Rattle.std.proofs.Common.{◌≡◌, ℕ, zero, suc, ◌+◌, ◌≤◌, tru
 use Rattle.txs_values.specs.Choices.{extent_of, choice_of, choices_of, extent_chosen, fields_extent, first_chosen, next_choices, choice_rounds, finds_nothing, chosen_in}
 use Rattle.txs_values.specs.Default.{all_defaults, first_made, ranked, next_round, rounds}
 use Rattle.txs_values.specs.Measure.{u64_max}
-use Rattle.txs_values.specs.Value.{Ty, whole, truth, string, named, Value, num, bool, text, cons, packed, size, sizes, height, heights, Field, Constructor, Table}
+use Rattle.txs_values.specs.Value.{Ty, integer, truth, string, named, Value, num, bool, text, cons, packed, size, sizes, height, heights, Field, Constructor, Table}
 use Rattle.txs_values.specs.declared.default.Choice as rust_choice
 use Rattle.txs_values.specs.declared.default.Extent as rust_extent
 
@@ -65,7 +65,7 @@ chosen-named (Some v ∷ os) zero = refl
 chosen-named (o ∷ os) (suc k) = chosen-named os k
 
 pub extent-ranked : (os : List (Option Value)) (t : Ty) → extent_chosen (choices_of os) t ≡ option_map extent_of (ranked os t)
-extent-ranked os whole = refl
+extent-ranked os integer = refl
 extent-ranked os truth = refl
 extent-ranked os string = refl
 extent-ranked os (named k) = extent-named os k

@@ -10,7 +10,7 @@ use Rattle.std.specs.Str.{IsAscii}
 use Rattle.std.specs.Str.Parse.{AllDigits, IsNumeral}
 use Rattle.txs_values.specs.Ints.{number_run, past_number, has_digit, IsNumber}
 use Rattle.txs_values.specs.Spelling.{is_digit, run_of, past_run, past_blanks, Front, then_front, number_front, alone, last_value, last_number, lone_number, spelled_number, read_text}
-use Rattle.txs_values.specs.Value.{Table, whole, Value, num, fits, value_height_limit, value_size_limit}
+use Rattle.txs_values.specs.Value.{Table, integer, Value, num, fits, value_height_limit, value_size_limit}
 
 -- ---- the front as a prefix
 
@@ -156,7 +156,7 @@ whole-alone None = refl
 whole-alone (Some f) = whole-fits f.value f.rest (fits f.value) refl
 
 -- an Int is read where the number that is spelled fits
-pub read_text-whole : (table : Table) (bs : List ℕ) → read_text table whole bs ≡ in_range (spelled_number bs)
+pub read_text-whole : (table : Table) (bs : List ℕ) → read_text table integer bs ≡ in_range (spelled_number bs)
 unfolding value_height_limit
 read_text-whole table bs = whole-alone (number_front (past_blanks bs))
 
@@ -168,7 +168,7 @@ read-is : {E : Type 0} (wrong past : E) (o : Option ℤ) (r : Result ℤ E) → 
 read-is wrong past None r e n = ((λ h. absurd (cc)), (λ h. absurd (cc)))
 read-is wrong past (Some m) r e n = read-fits past m n r (fits m) e
 
-pub read_text-is : {E : Type 0} (wrong past : E) (table : Table) (bs : List ℕ) (r : Result ℤ E) (n : ℤ) → MatchOption (spelled_number bs) (r ≡ Err wrong) (λ m. r ≡ cond (fits m) (Ok m) (Err past)) → (r ≡ Ok n) ↔ (read_text table whole bs ≡ Some (num n))
+pub read_text-is : {E : Type 0} (wrong past : E) (table : Table) (bs : List ℕ) (r : Result ℤ E) (n : ℤ) → MatchOption (spelled_number bs) (r ≡ Err wrong) (λ m. r ≡ cond (fits m) (Ok m) (Err past)) → (r ≡ Ok n) ↔ (read_text table integer bs ≡ Some (num n))
 read_text-is wrong past table bs r n e = subst (λ (q : Option Value). (r ≡ Ok n) ↔ (q ≡ Some (num n))) (sym (read_text-whole table bs)) (read-is wrong past (spelled_number bs) r e n)
 
 pub ruleset fronts = (number_run-length, take-number_run, drop-number_run)

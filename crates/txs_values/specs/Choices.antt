@@ -2,7 +2,7 @@
 use Rattle.std.specs.Prelude.{ℕ, zero, suc, ◌+◌, pos, Bool, true, false, cond, ◌&&◌, is_some, is_none, min, max, List, [], ◌∷◌, length, map, Option, Some, None, slice_get, option_map}
 use Rattle.txs_values.specs.Default.{all_defaults, rounds}
 use Rattle.txs_values.specs.Measure.{u64_max}
-use Rattle.txs_values.specs.Value.{Ty, Value, Field, Constructor, Table, Place, place_of, packed, whole, truth, string, named, num, bool, text, cons, size, height}
+use Rattle.txs_values.specs.Value.{Ty, Value, Field, Constructor, Table, Place, place_of, packed, integer, truth, string, named, num, bool, text, cons, size, height}
 use Rattle.txs_values.specs.declared.default.Choice as rust_choice
 use Rattle.txs_values.specs.declared.default.Extent as rust_extent
 
@@ -30,7 +30,7 @@ abbrev pub one : rust_extent.Extent
 one = record { size = 1; height = 1 }
 
 abbrev pub extent_chosen : List (Option rust_choice.Choice) → Ty → Option rust_extent.Extent
-extent_chosen found whole = Some one
+extent_chosen found integer = Some one
 extent_chosen found truth = Some one
 extent_chosen found string = Some one
 extent_chosen found (named k) = elim (slice_get found k) [ None ↦ None | Some o ↦ option_map (λ c. c.extent) o ]
@@ -76,7 +76,7 @@ built_by go table (Some c) = made_by go c.id (place_of table c.id)
 -- with this many levels left
 abbrev pub built : ℕ → Table → List (Option rust_choice.Choice) → Ty → Option Value
 built zero table found ty = None
-built (suc n) table found whole = Some (num (pos 0))
+built (suc n) table found integer = Some (num (pos 0))
 built (suc n) table found truth = Some (bool false)
 built (suc n) table found string = Some (text [])
 built (suc n) table found (named k) = built_by (built n table found) table (chosen_in found k)

@@ -1,6 +1,6 @@
 -- The default of a type: by rounds, the first constructor whose fields have defaults already.
 use Rattle.std.specs.Prelude.{ℕ, zero, suc, ◌+◌, pos, false, List, [], ◌∷◌, length, map, Option, Some, None, slice_get}
-use Rattle.txs_values.specs.Value.{Ty, Value, Field, Constructor, Table, packed, whole, truth, string, named, num, bool, text, cons}
+use Rattle.txs_values.specs.Value.{Ty, Value, Field, Constructor, Table, packed, integer, truth, string, named, num, bool, text, cons}
 
 -- the defaults of fields, if each has one
 abbrev pub all_defaults : (Ty → Option Value) → List Field → Option (List Value)
@@ -14,7 +14,7 @@ first_made go c (x ∷ xs) = elim (all_defaults go x.fields) [ None ↦ first_ma
 
 -- the default of a type by the defaults that are found already
 abbrev pub ranked : List (Option Value) → Ty → Option Value
-ranked os whole = Some (num (pos 0))
+ranked os integer = Some (num (pos 0))
 ranked os truth = Some (bool false)
 ranked os string = Some (text [])
 ranked os (named k) = elim (slice_get os k) [ None ↦ None | Some o ↦ o ]

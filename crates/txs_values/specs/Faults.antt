@@ -3,7 +3,7 @@ use Rattle.std.specs.Prelude.{◌≡◌, ◌≢◌, ◌≤◌, ◌<◌, ℕ, suc
 use Rattle.txs_values.specs.declared.refusal.ReadValueFault.{ReadValueFault}
 use Rattle.txs_values.specs.declared.refusal.ReadValueFault.TheVariants.{NotText, WrongForm, Range, TooDeep, TooBig, NoMemory}
 use Rattle.std.specs.Str.Parse.{signed_digits_value}
-use Rattle.txs_values.specs.Value.{Ty, Value, Field, Table, place_of, field_types, fits, size, value_size_limit, value_height_limit, HasType, whole, named}
+use Rattle.txs_values.specs.Value.{Ty, Value, Field, Table, place_of, field_types, fits, size, value_size_limit, value_height_limit, HasType, integer, named}
 use Rattle.txs_values.specs.Spelling.{is_digit}
 use Rattle.txs_values.specs.Spelled.{AreBlanks, AreDigits, IsSign, Spells, IsSpelling, IsNamed}
 
@@ -73,7 +73,7 @@ pub record IsOutOfRange (table : Table) (t : Ty) (p r : List ℕ) : Type 0 where
   pub digits : List ℕ
   pub more : List ℕ
   pub before : p ≡ front ++ blanks
-  pub stands : Stands table t front level whole
+  pub stands : Stands table t front level integer
   pub are_blanks : AreBlanks blanks
   pub is_sign : IsSign sign
   pub are_digits : AreDigits (first ∷ digits)

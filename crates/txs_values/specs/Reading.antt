@@ -4,7 +4,7 @@ use Rattle.std.specs.Str.{is_utf8}
 use Rattle.std.specs.Str.Parse.{signed_digits_value}
 use Rattle.txs_values.specs.declared.reading.Kind.{Kind}
 use Rattle.txs_values.specs.declared.reading.Kind.TheVariants.{Wrong, Past, Deep, Broken}
-use Rattle.txs_values.specs.Value.{Ty, whole, truth, string, named, Value, num, bool, text, cons, no_value, packed, Field, Constructor, Table, fits}
+use Rattle.txs_values.specs.Value.{Ty, integer, truth, string, named, Value, num, bool, text, cons, no_value, packed, Field, Constructor, Table, fits}
 use Rattle.txs_values.specs.Spelling.{past_blanks, is_name_byte, is_raw, escape_of, Made}
 use Rattle.txs_values.specs.Ints.{number_run, past_number, has_digit}
 
@@ -126,7 +126,7 @@ fields_read below c (f ∷ fs) bs = enclosed_read below c (f ∷ fs) bs
 -- ---- values
 
 abbrev pub level_read : Table → Option Reader → Reader
-level_read table below whole bs = number_read bs
+level_read table below integer bs = number_read bs
 level_read table below truth bs = truth_read bs
 level_read table below string bs = text_read bs
 level_read table below (named k) bs = after (made_read 0 table k bs) (λ m r. fields_read below m.number m.fields r)

@@ -1,7 +1,7 @@
 -- The spellings of a value, one case a form: the canonical text with blanks around each token, leading zeros allowed, and `-0` for 0.
 use Rattle.std.specs.Prelude.{◌≡◌, ◌≤◌, ℕ, true, false, eqb, List, [], ◌∷◌, ◌++◌, Some, codes}
 use Rattle.std.specs.Str.Parse.{signed_digits_value}
-use Rattle.txs_values.specs.Value.{Ty, Value, text, Field, Table, Place, place_of, field_types, size, height, value_size_limit, value_height_limit, HasType, Values, whole, truth, string, named, num, bool, cons, no_value, and_value}
+use Rattle.txs_values.specs.Value.{Ty, Value, text, Field, Table, Place, place_of, field_types, size, height, value_size_limit, value_height_limit, HasType, Values, integer, truth, string, named, num, bool, cons, no_value, and_value}
 use Rattle.txs_values.specs.Spelling.{is_blank, is_digit, is_letter, is_name_byte, escape_of, is_raw}
 
 -- spaces and tabs
@@ -28,7 +28,7 @@ mutual
   -- these bytes spell the value of this type, with blanks before each token; numbers are of any size
   pub data Spells (table : Table) : Ty → Value → List ℕ → Type 0 where
     a_number : (blanks sign : List ℕ) (d : ℕ) (digits : List ℕ) → AreBlanks blanks → IsSign sign → AreDigits (d ∷ digits)
-        → Spells table whole (num (signed_digits_value 10 (sign ++ d ∷ digits))) (blanks ++ (sign ++ d ∷ digits))
+        → Spells table integer (num (signed_digits_value 10 (sign ++ d ∷ digits))) (blanks ++ (sign ++ d ∷ digits))
     a_true : (blanks : List ℕ) → AreBlanks blanks → Spells table truth (bool true) (blanks ++ codes "True")
     a_false : (blanks : List ℕ) → AreBlanks blanks → Spells table truth (bool false) (blanks ++ codes "False")
     a_text : (blanks bs ws : List ℕ) → AreBlanks blanks → Quotes bs ws → Spells table string (text bs) (blanks ++ (34 ∷ (ws ++ 34 ∷ [])))

@@ -1,7 +1,7 @@
 -- The value that a text spells: the canonical text with blanks around each token, leading zeros allowed, and `-0` for 0.
 use Rattle.std.specs.Prelude.{◌≡◌, ℕ, zero, suc, ◌+◌, ℤ, Bool, true, false, cond, ◌&&◌, ◌||◌, eqb, nat_le, List, [], ◌∷◌, ◌++◌, Option, Some, None, codes, bytes_eq}
 use Rattle.std.specs.Str.Parse.{signed_digits_value}
-use Rattle.txs_values.specs.Value.{Ty, whole, truth, string, named, Value, num, bool, text, cons, Values, no_value, and_value, Field, Constructor, Table, fits, size, value_size_limit, value_height_limit}
+use Rattle.txs_values.specs.Value.{Ty, integer, truth, string, named, Value, num, bool, text, cons, Values, no_value, and_value, Field, Constructor, Table, fits, size, value_size_limit, value_height_limit}
 
 -- ---- bytes
 
@@ -156,7 +156,7 @@ with_made below (Some m) rest = fields_front below m.number m.fields rest
 
 -- one level of a value; `below` reads the level under it
 abbrev pub level_front : Table → Reader → Reader
-level_front table below whole bs = whole_front bs
+level_front table below integer bs = whole_front bs
 level_front table below truth bs = then_front (name_front bs) (λ name rest. with_truth (truth_named name) rest)
 level_front table below string bs = then_front (text_front bs) (λ t rest. Some (record { value = text t; rest = rest }))
 level_front table below (named k) bs = then_front (name_front bs) (λ name rest. with_made below (made_from 0 table k name) rest)

@@ -7,7 +7,7 @@ use mathlib.Core.Bool.{beq}
 
 -- Int, Bool, String, or a type of the table by its place
 pub data Ty : Type 0 where
-  whole : Ty
+  integer : Ty
   truth : Ty
   string : Ty
   named : ℕ → Ty
@@ -142,19 +142,19 @@ fields_in (Some p) k = cond (eqb p.ty k) (Some (field_types p.constructor.fields
 -- whether a value is one of this type; an Int is in its range
 abbrev mutual
   pub has_type : Table → Value → Ty → Bool
-  has_type table (num x) whole = fits x
+  has_type table (num x) integer = fits x
   has_type table (num x) truth = false
   has_type table (num x) string = false
   has_type table (num x) (named k) = false
-  has_type table (bool b) whole = false
+  has_type table (bool b) integer = false
   has_type table (bool b) truth = true
   has_type table (bool b) string = false
   has_type table (bool b) (named k) = false
-  has_type table (text bs) whole = false
+  has_type table (text bs) integer = false
   has_type table (text bs) truth = false
   has_type table (text bs) string = true
   has_type table (text bs) (named k) = false
-  has_type table (cons c vs) whole = false
+  has_type table (cons c vs) integer = false
   has_type table (cons c vs) truth = false
   has_type table (cons c vs) string = false
   has_type table (cons c vs) (named k) = has_fields table vs (fields_in (place_of table c) k)

@@ -5,7 +5,7 @@ use Rattle.txs_values.specs.declared.ty.Ty.TheVariants as ty
 use Rattle.txs_values.specs.declared.value.Value as rust
 use Rattle.txs_values.specs.declared.value.Value.TheOpen.{Value-F}
 use Rattle.txs_values.specs.declared.value.Value.TheFolds.{fold-Value}
-use Rattle.txs_values.specs.Value.{Ty, whole, truth, string, named, Value, num, bool, text, cons, packed}
+use Rattle.txs_values.specs.Value.{Ty, integer, truth, string, named, Value, num, bool, text, cons, packed}
 
 -- one level, with each field already seen
 abbrev pub value_step : Value-F Value → Value
@@ -21,7 +21,7 @@ abbrev pub values_of : List rust.Value → List Value
 values_of vs = map value_of vs
 
 abbrev pub ty_of : rust_ty.Ty → Ty
-ty_of ty.Int = whole
+ty_of ty.Int = integer
 ty_of ty.Bool = truth
 ty_of ty.Text = string
 ty_of (ty.Named k) = named k

@@ -1,7 +1,7 @@
 -- The menus of HIDE. Out is the first channel in scope, and the first channel that a HIDE binds is the next number.
 use Rattle.std.proofs.Common.{◌≡◌, List, [], ◌∷◌, refl}
 use Rattle.std.specs.Prelude.{pos}
-use Rattle.txs_values.specs.Value.{whole, num}
+use Rattle.txs_values.specs.Value.{integer, num}
 use Rattle.txs_terms.specs.Expr.{Expr, slot, equal, two, plus, minus, divide, more_than}
 use Rattle.txs_terms.specs.Action.{Scope}
 use Rattle.txs_terms.specs.Term.{Term, give, take, stop, exits, prefix, choice, par, hide}
@@ -101,7 +101,7 @@ shown_and_hidden =
     (prefix (offer 0 (give (slot 0) ∷ give (slot 2) ∷ []) ∷ []) [] stop))
 
 -- Out!$1!$2 [[$1 == 3]] [[$2 > 7]], then HIDE [H :: Int] IN Out ! 7 ! $2 >-> STOP NI
-shown_and_hidden_menu : walk nothing 10 ((whole ∷ whole ∷ []) ∷ []) shown_and_hidden 0
+shown_and_hidden_menu : walk nothing 10 ((integer ∷ integer ∷ []) ∷ []) shown_and_hidden 0
     ≡ walked 2 (item (on (0 ∷ [])) (is_number 0 3 ∷ two more_than (slot 1) (number 7) ∷ [])
     (hidden (prefix (offer 0 (give (number 7) ∷ give (slot 1) ∷ []) ∷ []) [] stop)) ∷ [])
 unfolding limits

@@ -1,7 +1,7 @@
 -- The menus of prefixes, ISTEP and EXIT.
 use Rattle.std.proofs.Common.{◌≡◌, List, [], ◌∷◌, refl}
 use Rattle.std.specs.Prelude.{pos}
-use Rattle.txs_values.specs.Value.{whole, num}
+use Rattle.txs_values.specs.Value.{integer, num}
 use Rattle.txs_terms.specs.Expr.{Expr, slot, two, plus, less_than, more_than}
 use Rattle.txs_terms.specs.Action.{Scope}
 use Rattle.txs_terms.specs.Term.{Term, give, take, stop, exits, prefix, step}
@@ -10,7 +10,7 @@ use Rattle.txs_laws.proofs.examples.Words.{limits, nothing, int, pair, number, b
 
 -- the channel A has two Ints, and B has one
 abbrev two_and_one : Scope
-two_and_one = (whole ∷ whole ∷ []) ∷ int ∷ []
+two_and_one = (integer ∷ integer ∷ []) ∷ int ∷ []
 
 -- A ! 1 + 1 ? x [[ x > 5 ]] >-> EXIT ! x
 abbrev gives_and_takes : Term

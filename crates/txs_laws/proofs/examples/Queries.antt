@@ -1,7 +1,7 @@
 -- Answers to small queries, and how guards are split into queries, by computation.
 use Rattle.std.proofs.Common.{◌≡◌, ℕ, List, [], ◌∷◌, refl, true, false}
 use Rattle.std.specs.Prelude.{◌-◌, ◌^◌, ℤ, pos, negsuc, None}
-use Rattle.txs_values.specs.Value.{Ty, Value, num, bool, text, cons, no_value, and_value, whole, truth, string, named, Field, Constructor, Table, fits}
+use Rattle.txs_values.specs.Value.{Ty, Value, num, bool, text, cons, no_value, and_value, integer, truth, string, named, Field, Constructor, Table, fits}
 use Rattle.txs_terms.specs.Expr.{Expr, val, slot, one, is_made_by, negation, select, equal, either, two, differ, more_than, less_than, at_most, times, remainder}
 use Rattle.txs_terms.specs.Eval.{Defs, height_limit, node_limit}
 use Rattle.txs_guard.specs.Query.{Query, split}
@@ -20,7 +20,7 @@ int k = val (num (pos k))
 abbrev chain : Query
 chain = record {
   defs = nothing;
-  slots = whole ∷ whole ∷ [];
+  slots = integer ∷ integer ∷ [];
   conjuncts = two less_than (slot 0) (slot 1) ∷ two less_than (slot 1) (int 2) ∷ [];
 }
 
@@ -41,7 +41,7 @@ chain_solved = refl
 abbrev sevens : Query
 sevens = record {
   defs = nothing;
-  slots = whole ∷ [];
+  slots = integer ∷ [];
   conjuncts = two more_than (slot 0) (int 0) ∷ two less_than (slot 0) (int 10) ∷ equal (two remainder (slot 0) (int 7)) (int 0) ∷ [];
 }
 
@@ -54,7 +54,7 @@ sevens_solved = refl
 abbrev closed_sevens : Query
 closed_sevens = record {
   defs = nothing;
-  slots = whole ∷ [];
+  slots = integer ∷ [];
   conjuncts = two at_most (int 1) (slot 0) ∷ two at_most (slot 0) (int 10) ∷ equal (two remainder (slot 0) (int 7)) (int 0) ∷ [];
 }
 
@@ -65,7 +65,7 @@ closed_sevens_solved = refl
 
 -- 0 < x, x < 1
 abbrev gap : Query
-gap = record { defs = nothing; slots = whole ∷ []; conjuncts = two more_than (slot 0) (int 0) ∷ two less_than (slot 0) (int 1) ∷ [] }
+gap = record { defs = nothing; slots = integer ∷ []; conjuncts = two more_than (slot 0) (int 0) ∷ two less_than (slot 0) (int 1) ∷ [] }
 
 -- no Int lies between 0 and 1
 gap_solved : solved gap ≡ unsat
@@ -74,7 +74,7 @@ gap_solved = refl
 
 -- x * x == 2
 abbrev square : Query
-square = record { defs = nothing; slots = whole ∷ []; conjuncts = equal (two times (slot 0) (slot 0)) (int 2) ∷ [] }
+square = record { defs = nothing; slots = integer ∷ []; conjuncts = equal (two times (slot 0) (slot 0)) (int 2) ∷ [] }
 
 -- no order atom, and no bounds
 square_solved : solved square ≡ undecided
@@ -86,7 +86,7 @@ last = pos (2 ^ 127 - 1)
 
 -- x > k
 abbrev above_last : ℤ → Query
-above_last k = record { defs = nothing; slots = whole ∷ []; conjuncts = two more_than (slot 0) (val (num k)) ∷ [] }
+above_last k = record { defs = nothing; slots = integer ∷ []; conjuncts = two more_than (slot 0) (val (num k)) ∷ [] }
 
 -- x > 2^127 - 2 has the one Int above
 last_solved : solved (above_last (pos (2 ^ 127 - 2))) ≡ sat ((num last ∷ []) ∷ [])
@@ -188,7 +188,7 @@ neither_solved = refl
 
 -- the type Items ::= Nil | More { head :: Int; rest :: Items }
 abbrev items : Table
-items = record { name = []; constructors = plain ∷ record { name = []; fields = field whole ∷ field (named 0) ∷ [] } ∷ [] } ∷ []
+items = record { name = []; constructors = plain ∷ record { name = []; fields = field integer ∷ field (named 0) ∷ [] } ∷ [] } ∷ []
 
 abbrev empty : Value
 empty = cons 0 no_value
@@ -210,19 +210,19 @@ single_solved = refl
 
 -- $3 < $1, $2, $1 < 3: the first and the third share a slot, so they are one query, whose slots stand for $3 and $1; the second is another
 grouped :
-    split nothing (two less_than (slot 2) (slot 0) ∷ slot 1 ∷ two less_than (slot 0) (int 3) ∷ []) (whole ∷ truth ∷ whole ∷ [])
-    ≡ record { query = record { defs = nothing; slots = whole ∷ whole ∷ []; conjuncts = two less_than (slot 0) (slot 1) ∷ two less_than (slot 1) (int 3) ∷ [] }; slots = 2 ∷ 0 ∷ [] }
+    split nothing (two less_than (slot 2) (slot 0) ∷ slot 1 ∷ two less_than (slot 0) (int 3) ∷ []) (integer ∷ truth ∷ integer ∷ [])
+    ≡ record { query = record { defs = nothing; slots = integer ∷ integer ∷ []; conjuncts = two less_than (slot 0) (slot 1) ∷ two less_than (slot 1) (int 3) ∷ [] }; slots = 2 ∷ 0 ∷ [] }
     ∷ record { query = record { defs = nothing; slots = truth ∷ []; conjuncts = slot 0 ∷ [] }; slots = 1 ∷ [] }
     ∷ []
 grouped = refl
 
 -- $1 < $2, $3 < $4, $2 < $3: the third ties the others, so there is one query, in the order of the guards
 tied :
-    split nothing (two less_than (slot 0) (slot 1) ∷ two less_than (slot 2) (slot 3) ∷ two less_than (slot 1) (slot 2) ∷ []) (whole ∷ whole ∷ whole ∷ whole ∷ [])
+    split nothing (two less_than (slot 0) (slot 1) ∷ two less_than (slot 2) (slot 3) ∷ two less_than (slot 1) (slot 2) ∷ []) (integer ∷ integer ∷ integer ∷ integer ∷ [])
     ≡ record {
       query = record {
         defs = nothing;
-        slots = whole ∷ whole ∷ whole ∷ whole ∷ [];
+        slots = integer ∷ integer ∷ integer ∷ integer ∷ [];
         conjuncts = two less_than (slot 0) (slot 1) ∷ two less_than (slot 2) (slot 3) ∷ two less_than (slot 1) (slot 2) ∷ [];
       };
       slots = 0 ∷ 1 ∷ 2 ∷ 3 ∷ [];

@@ -9,7 +9,7 @@
 --   the behaviour queue [Inp, Outp] (Nil), where Inp is 0 and Outp is 1
 use Rattle.std.proofs.Common.{refl, arith, subst}
 use Rattle.std.specs.Prelude.{◌≡◌, ◌<◌, ℕ, zero, suc, List, [], ◌∷◌, Option, Some, None, slice_get, codes}
-use Rattle.txs_values.specs.Value.{Ty, Value, Field, Constructor, Table, Place, place_of, field_types, whole, named, cons, no_value}
+use Rattle.txs_values.specs.Value.{Ty, Value, Field, Constructor, Table, Place, place_of, field_types, integer, named, cons, no_value}
 use Rattle.txs_values.specs.Default.{default_if}
 use Rattle.txs_terms.specs.Expr.{Expr, Exprs, negation, is_made_by, select, val, slot, one, choose, apply, build, none, more}
 use Rattle.txs_terms.specs.Action.{Scope}
@@ -24,7 +24,7 @@ abbrev nil : Constructor
 nil = record { name = codes "Nil"; fields = [] }
 
 abbrev cell : Constructor
-cell = record { name = codes "Cell"; fields = field (codes "hd") whole ∷ field (codes "tl") (named 0) ∷ [] }
+cell = record { name = codes "Cell"; fields = field (codes "hd") integer ∷ field (codes "tl") (named 0) ∷ [] }
 
 abbrev table : Table
 table = record { name = codes "L"; constructors = nil ∷ cell ∷ [] } ∷ []
@@ -62,11 +62,11 @@ abbrev queue : Model
 queue = record { defs = record { table = table; functions = add ∷ []; constants = [] }; bodies = body ∷ []; automata = [] }
 
 abbrev scope : Scope
-scope = (whole ∷ []) ∷ (whole ∷ []) ∷ []
+scope = (integer ∷ []) ∷ (integer ∷ []) ∷ []
 
 abbrev signatures : Signatures
 signatures = record {
-  functions = record { takes = whole ∷ named 0 ∷ []; gives = named 0 } ∷ [];
+  functions = record { takes = integer ∷ named 0 ∷ []; gives = named 0 } ∷ [];
   constants = [];
   processes = record { formals = scope; takes = named 0 ∷ []; exit_types = None } ∷ [];
   automata = [];
@@ -103,12 +103,12 @@ of_table = record { defaults = defaults; known = known }
 nil_of : {slots : List Ty} → Of table signatures slots [] empty (named 0)
 nil_of = val_of refl
 
-add_of : Of table signatures (whole ∷ named 0 ∷ []) [] add (named 0)
+add_of : Of table signatures (integer ∷ named 0 ∷ []) [] add (named 0)
 add_of =
     choose_of (one_of (made_by_of 0 0 nil nil_place) (slot_of refl))
     (build_of cell_place (more_of' (slot_of refl) (more_of' nil_of none_of)))
     (build_of cell_place
-    (more_of' (one_of (select_of 1 0 0 whole cell cell_place refl) (slot_of refl))
+    (more_of' (one_of (select_of 1 0 0 integer cell cell_place refl) (slot_of refl))
     (more_of' (apply_of refl (more_of' (slot_of refl) (more_of' (one_of (select_of 1 1 0 (named 0) cell cell_place refl) (slot_of refl)) none_of))) none_of)))
 
 of_calls : (slots : List Ty) (e : Expr) (exit_types : List Ty) → Of table signatures slots [] e (named 0) → OfTerm table signatures scope slots exit_types (calls e)
@@ -124,7 +124,7 @@ of_body : (exit_types : List Ty) → OfTerm table signatures scope (named 0 ∷ 
 of_body exit_types = (
   ((omega arith, tt, tt), tt, of_calls _ _ exit_types (apply_of refl (more_of' (slot_of refl) (more_of' (slot_of refl) none_of))), refl),
   (
-    (omega arith, (one_of (select_of 1 0 0 whole cell cell_place refl) (slot_of refl), tt), tt),
+    (omega arith, (one_of (select_of 1 0 0 integer cell cell_place refl) (slot_of refl), tt), tt),
     (one_of negation_of (one_of (made_by_of 0 0 nil nil_place) (slot_of refl)), tt),
     of_calls _ _ exit_types (one_of (select_of 1 1 0 (named 0) cell cell_place refl) (slot_of refl)),
     refl,

@@ -1,7 +1,7 @@
 -- Short words for the examples: the channels that they are on have one Int each, where nothing else is said.
 use Rattle.std.proofs.Common.{ℕ, List, [], ◌∷◌}
 use Rattle.std.specs.Prelude.{pos}
-use Rattle.txs_values.specs.Value.{Ty, whole, num, fits, value_size_limit, value_height_limit}
+use Rattle.txs_values.specs.Value.{Ty, integer, num, fits, value_size_limit, value_height_limit}
 use Rattle.txs_terms.specs.Expr.{Expr, val, slot, equal, two, divide}
 use Rattle.txs_terms.specs.Eval.{height_limit, node_limit}
 use Rattle.txs_terms.specs.Action.{Action, Scope}
@@ -24,7 +24,7 @@ abbrev pub processes : List Term → Model
 processes bodies = record { defs = record { table = []; functions = []; constants = [] }; bodies = bodies; automata = [] }
 
 abbrev pub int : List Ty
-int = whole ∷ []
+int = integer ∷ []
 
 -- two channels
 abbrev pub pair : Scope

@@ -7,7 +7,7 @@ use Rattle.std.specs.Cmp.Lexicographic.{bytes_decides}
 use Rattle.std.proofs.lemmas.List.{length-append}
 use Rattle.std.proofs.lemmas.Bool.{both_ways}
 use Rattle.txs_values.specs.Default.{default_of}
-use Rattle.txs_values.specs.Value.{fits, Ty, whole, truth, string, named, Value, num, bool, text, cons, Table, has_type, HaveTypes}
+use Rattle.txs_values.specs.Value.{fits, Ty, integer, truth, string, named, Value, num, bool, text, cons, Table, has_type, HaveTypes}
 use Rattle.txs_terms.specs.Rules.{In}
 use Rattle.txs_guard.specs.Candidates.{least, cells, pools_of, longest, order_candidates}
 use Rattle.txs_guard.specs.Mentioned.{flat, numbers, texts, mentioned, paths_at, places_with, spot}
@@ -65,14 +65,14 @@ value_there : List Value → Spot → Option Value
 value_there p s = follow (slice_get p s.base) s.path
 
 pub numbers_there : Query → List Value → List ℤ
-numbers_there q p = flat (λ s. number_at (value_there p s)) (places_with q whole)
+numbers_there q p = flat (λ s. number_at (value_there p s)) (places_with q integer)
 
 pub texts_there : Query → List Value → List Text
 texts_there q p = flat (λ s. text_there (value_there p s)) (places_with q string)
 
-few_whole : (q : Query) (p : List Value) → length (numbers_there q p) ≤ length (places_with q whole)
+few_whole : (q : Query) (p : List Value) → length (numbers_there q p) ≤ length (places_with q integer)
 unfolding numbers_there
-few_whole q p = few_flat (λ s. number_at (value_there p s)) (places_with q whole) (λ s. few_numbers (value_there p s))
+few_whole q p = few_flat (λ s. number_at (value_there p s)) (places_with q integer) (λ s. few_numbers (value_there p s))
 
 few_string : (q : Query) (p : List Value) → length (texts_there q p) ≤ length (places_with q string)
 unfolding texts_there
@@ -96,7 +96,7 @@ IsText q p t = In t (texts q) ⊎ In t (texts_there q p)
 
 lands : (q : Query) (p : List Value) → ConstantsFit q → Lands (shape q p) (IsText q p) (pools_of q)
 lands q p h = record {
-  numbers = λ x f. pressed_candidate (length (places_with q whole)) (numbers q) (numbers_there q p) x (few_whole q p) h f;
+  numbers = λ x f. pressed_candidate (length (places_with q integer)) (numbers q) (numbers_there q p) x (few_whole q p) h f;
   texts = λ t k. renamed_candidate (length (places_with q string)) (texts q) (texts_there q p) t (few_string q p) k;
 }
 
@@ -130,14 +130,14 @@ keeps q p = record {
 
 -- ---- what is known at mentioned places
 
-whole_of : (table : Table) (x : ℤ) (u : Ty) → has_type table (num x) u ≡ true → u ≡ whole
-whole_of table x whole e = refl
+whole_of : (table : Table) (x : ℤ) (u : Ty) → has_type table (num x) u ≡ true → u ≡ integer
+whole_of table x integer e = refl
 whole_of table x truth e = cc
 whole_of table x string e = cc
 whole_of table x (named k) e = cc
 
 string_of : (table : Table) (t : Text) (u : Ty) → has_type table (text t) u ≡ true → u ≡ string
-string_of table x whole e = cc
+string_of table x integer e = cc
 string_of table x truth e = cc
 string_of table x string e = refl
 string_of table x (named k) e = cc
@@ -148,8 +148,8 @@ known_at q p h i = (
   (λ r x m f.
       let t = place_typed q p h (spot i r) (num x) f in
       let e = whole_of q.defs.table x t.0 t.2 in
-      let o = In_places q whole (spot i r) (ap (is_type whole) (t.1 ∙ ap Some e)) (paths_In i r (mentioned q) m) in
-      inr (In_flat (λ s. number_at (value_there p s)) (spot i r) x (places_with q whole) o (subst (λ (z : Option Value). In x (number_at z)) (sym f) (inl refl)))),
+      let o = In_places q integer (spot i r) (ap (is_type integer) (t.1 ∙ ap Some e)) (paths_In i r (mentioned q) m) in
+      inr (In_flat (λ s. number_at (value_there p s)) (spot i r) x (places_with q integer) o (subst (λ (z : Option Value). In x (number_at z)) (sym f) (inl refl)))),
   (λ r x m f.
       let t = place_typed q p h (spot i r) (text x) f in
       let e = string_of q.defs.table x t.0 t.2 in

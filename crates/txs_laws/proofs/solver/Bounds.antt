@@ -4,7 +4,7 @@ use Rattle.std.specs.Prelude.{Option, Some, None, slice_get}
 use Rattle.std.proofs.lemmas.Int.{ints}
 use Rattle.std.proofs.lemmas.Bool.{and_parts, both_ways, eqb-true}
 use Rattle.txs_terms.specs.Action.{from}
-use Rattle.txs_values.specs.Value.{fields_in, field_types, Ty, whole, truth, string, named, Value, num, bool, text, cons, Values, no_value, and_value, Table, Field, place_of, same_value, has_type, has_fields, HaveTypes}
+use Rattle.txs_values.specs.Value.{fields_in, field_types, Ty, integer, truth, string, named, Value, num, bool, text, cons, Values, no_value, and_value, Table, Field, place_of, same_value, has_type, has_fields, HaveTypes}
 use Rattle.txs_terms.specs.Eval.{Defs, Run, got, bad, long, run, eval, then_run, after, binary, fine, broken, Outcome, node_limit, height_limit, Gives, Hold, bool_true}
 use Rattle.txs_terms.specs.Expr.{Binary, plus, minus, times, divide, remainder, concat, differ, less_than, at_most, more_than, at_least, char_at, Expr, val, slot, local, constant, one, two, equal, both, either, choose, apply, build, let_in, put, put_all, filled, has_slot}
 use Rattle.txs_terms.specs.Rules.{In}
@@ -401,11 +401,11 @@ made_In table k c us vs e h =
 
 value_In : (table : Table) (bs : List Bound) (p : List Value) (i : ℕ) (t : Ty) (v : Value) (vs : List Value) → AllKeep p bs → slice_get p i ≡ Some v
     → has_type table v t ≡ true → every_value table bs i t ≡ Some vs → In v vs
-value_In table bs p i whole (num x) vs k e h r =
+value_In table bs p i integer (num x) vs k e h r =
     between_In (bounds_for i true bs) (bounds_for i false bs) x vs r (λ y g. low_keeps p i x y bs k e g) (λ y g. high_keeps p i x y bs k e g)
-value_In table bs p i whole (bool b) vs k e h r = cc
-value_In table bs p i whole (text b) vs k e h r = cc
-value_In table bs p i whole (cons c us) vs k e h r = cc
+value_In table bs p i integer (bool b) vs k e h r = cc
+value_In table bs p i integer (text b) vs k e h r = cc
+value_In table bs p i integer (cons c us) vs k e h r = cc
 value_In table bs p i truth (num x) vs k e h r = cc
 value_In table bs p i truth (bool true) vs k e h r = subst (λ (z : List Value). In (bool true) z) (some_list_same r) (inr (inl refl))
 value_In table bs p i truth (bool false) vs k e h r = subst (λ (z : List Value). In (bool false) z) (some_list_same r) (inl refl)

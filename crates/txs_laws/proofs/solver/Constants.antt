@@ -2,7 +2,7 @@
 use Rattle.std.proofs.Common.{◌≡◌, ℕ, ℤ, Bool, true, false, ◌||◌, cond, inl, inr, List, [], ◌∷◌, ◌++◌, refl, sym, ap, ◌∙◌, subst}
 use Rattle.std.specs.Prelude.{Option, Some, None}
 use Rattle.std.proofs.lemmas.Bool.{and_parts, or_parts}
-use Rattle.txs_values.specs.Value.{Ty, whole, truth, string, named, Value, num, bool, text, cons, Values, no_value, and_value, Table, fields_in, place_of, HasType, has_type, has_fields, fits}
+use Rattle.txs_values.specs.Value.{Ty, integer, truth, string, named, Value, num, bool, text, cons, Values, no_value, and_value, Table, fields_in, place_of, HasType, has_type, has_fields, fits}
 use Rattle.txs_terms.specs.Expr.{negate, negation, to_text, from_text, len, is_made_by, select, Expr, val, slot, local, constant, one, two, equal, both, either, choose, apply, build, let_in, Exprs, has_slot, any_has_slot}
 use Rattle.txs_terms.specs.Eval.{Run, got, bad, eval, height_limit}
 use Rattle.txs_terms.specs.Rules.{In}
@@ -20,14 +20,14 @@ use Rattle.txs_laws.proofs.solver.Atoms.{ConstantsFit}
 
 mutual
   pub typed_fits : (table : Table) (v : Value) (t : Ty) → has_type table v t ≡ true → (x : ℤ) → In x (numbers_in v) → fits x ≡ true
-  typed_fits table (num y) whole h x (inl e) = ap fits e ∙ h
-  typed_fits table (num y) whole h x (inr i) = absurd i
+  typed_fits table (num y) integer h x (inl e) = ap fits e ∙ h
+  typed_fits table (num y) integer h x (inr i) = absurd i
   typed_fits table (num y) truth h x i = cc
   typed_fits table (num y) string h x i = cc
   typed_fits table (num y) (named k) h x i = cc
   typed_fits table (bool b) t h x i = absurd i
   typed_fits table (text bs) t h x i = absurd i
-  typed_fits table (cons c vs) whole h x i = cc
+  typed_fits table (cons c vs) integer h x i = cc
   typed_fits table (cons c vs) truth h x i = cc
   typed_fits table (cons c vs) string h x i = cc
   typed_fits table (cons c vs) (named k) h x i = typed_each table vs (fields_in (place_of table c) k) h x i

@@ -3,7 +3,7 @@ use Rattle.std.proofs.Common.{◌≡◌, ℕ, zero, suc, ◌+◌, ◌<◌, ◌�
 use Rattle.std.specs.Prelude.{Option, Some, None, slice_get}
 use Rattle.std.proofs.lemmas.Bool.{and_parts}
 use Rattle.txs_terms.specs.Action.{from}
-use Rattle.txs_values.specs.Value.{fields_in, field_types, Ty, whole, truth, string, named, Value, num, bool, text, cons, Values, no_value, and_value, listed, packed, Table, Field, Constructor, Place, place_of, place_in, place_from, fits, has_type, has_fields, HaveTypes}
+use Rattle.txs_values.specs.Value.{fields_in, field_types, Ty, integer, truth, string, named, Value, num, bool, text, cons, Values, no_value, and_value, listed, packed, Table, Field, Constructor, Place, place_of, place_in, place_from, fits, has_type, has_fields, HaveTypes}
 use Rattle.txs_terms.specs.Rules.{In}
 use Rattle.txs_guard.specs.Candidates.{with_each, cells, Pools, count_made, fields_of, field_choices, each_field, made_choices, choices, slot_choices}
 use Rattle.txs_guard.specs.Mentioned.{Path, below, flat, paths_at}
@@ -101,7 +101,7 @@ deep_below ps c j left h p i = let q = h ((c, j) ∷ p) (below_In c j p ps i) in
 
 -- numbers in range and known texts go to candidates
 pub record Lands (s : Shape) (T : Text → Type 0) (pools : Pools) : Type 0 where
-  pub numbers : (x : ℤ) → fits x ≡ true → In (s.number x) pools.whole_pool
+  pub numbers : (x : ℤ) → fits x ≡ true → In (s.number x) pools.integer_pool
   pub texts : (t : Text) → T t → In (s.words t) pools.text_pool
 
 pick_In : (d : Value) (go : Ty → List Path → List Value) (t : Ty) (qs : List Path) (v : Value) (default : Ty → Value) → d ≡ default t
@@ -113,20 +113,20 @@ module _ (s : Shape) (N : ℤ → Type 0) (T : Text → Type 0) (pools : Pools) 
   mutual
     pub choice_In : (v : Value) (t : Ty) (ps : List Path) (left : ℕ) → has_type s.table v t ≡ true → In [] ps → Rooted ps → Deep ps left
         → Known N T ps (Some v) → In (squash s ps v) (choices s.table s.default pools left t ps)
-    choice_In (num x) whole ps left e i r d k = In_mapped num (s.number x) pools.whole_pool (lands.numbers x e)
+    choice_In (num x) integer ps left e i r d k = In_mapped num (s.number x) pools.integer_pool (lands.numbers x e)
     choice_In (num x) truth ps left e i r d k = cc
     choice_In (num x) string ps left e i r d k = cc
     choice_In (num x) (named n) ps left e i r d k = cc
-    choice_In (bool b) whole ps left e i r d k = cc
+    choice_In (bool b) integer ps left e i r d k = cc
     choice_In (bool true) truth ps left e i r d k = inr (inl refl)
     choice_In (bool false) truth ps left e i r d k = inl refl
     choice_In (bool b) string ps left e i r d k = cc
     choice_In (bool b) (named n) ps left e i r d k = cc
-    choice_In (text t) whole ps left e i r d k = cc
+    choice_In (text t) integer ps left e i r d k = cc
     choice_In (text t) truth ps left e i r d k = cc
     choice_In (text t) string ps left e i r d k = In_mapped text (s.words t) pools.text_pool (lands.texts t (k.1 [] t i refl))
     choice_In (text t) (named n) ps left e i r d k = cc
-    choice_In (cons c vs) whole ps left e i r d k = cc
+    choice_In (cons c vs) integer ps left e i r d k = cc
     choice_In (cons c vs) truth ps left e i r d k = cc
     choice_In (cons c vs) string ps left e i r d k = cc
     choice_In (cons c vs) (named n) ps zero e i r d k = let q = d [] i in absurd (omega arith)

@@ -2,7 +2,7 @@
 use Rattle.std.proofs.Common.{◌≡◌, ℕ, zero, suc, ◌+◌, ◌<◌, ◌≤◌, max, Bool, true, false, ◌&&◌, cond, eqb, ◌⊎◌, inl, inr, List, [], ◌∷◌, ◌++◌, length, map, refl, sym, ap, ◌∙◌, subst, arith}
 use Rattle.std.specs.Prelude.{Option, Some, None, slice_get}
 use Rattle.std.proofs.lemmas.Bool.{and_parts, or_cases, eqb-true, eq-eqb, both_ways}
-use Rattle.txs_values.specs.Value.{field_types, Ty, whole, truth, string, named, Value, num, bool, text, cons, Values, no_value, and_value, listed, Table, Field, Place, place_of, has_type, has_fields, HaveTypes}
+use Rattle.txs_values.specs.Value.{field_types, Ty, integer, truth, string, named, Value, num, bool, text, cons, Values, no_value, and_value, listed, Table, Field, Place, place_of, has_type, has_fields, HaveTypes}
 use Rattle.txs_terms.specs.Expr.{Expr}
 use Rattle.txs_terms.specs.Rules.{In}
 use Rattle.txs_guard.specs.Atom.{atoms_of_all}
@@ -221,7 +221,7 @@ field_type_is o p j f e h =
 
 under_typed : (table : Table) (d j : ℕ) (vs : Values) (u : Ty) (w : Value) → has_type table (cons d vs) u ≡ true → slice_get (listed vs) j ≡ Some w
     → (t : Ty) × (field_type (place_of table d) j ≡ Some t) × (has_type table w t ≡ true)
-under_typed table d j vs whole w e h = cc
+under_typed table d j vs integer w e h = cc
 under_typed table d j vs truth w e h = cc
 under_typed table d j vs string w e h = cc
 under_typed table d j vs (named k) w e h =

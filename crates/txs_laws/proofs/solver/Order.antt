@@ -3,11 +3,11 @@ use Rattle.std.proofs.Common.{◌≡◌, ℕ, zero, suc, ℤ, pos, Bool, true, f
 use Rattle.std.specs.Prelude.{Option, Some, None, slice_get}
 use Rattle.std.specs.Str.{bytes_eq}
 use Rattle.std.proofs.lemmas.Bool.{and_parts, or_cases, both_ways, eqb-true}
-use Rattle.txs_values.specs.Value.{Ty, whole, truth, string, named, Value, num, bool, text, cons, same_value, has_type}
+use Rattle.txs_values.specs.Value.{Ty, integer, truth, string, named, Value, num, bool, text, cons, same_value, has_type}
 use Rattle.txs_terms.specs.Eval.{Run, got, bad, long, run, eval, then_run, after, unary, binary, Outcome, fine, node_limit}
 use Rattle.txs_terms.specs.Expr.{negate, negation, to_text, from_text, len, is_made_by, select, Binary, plus, minus, times, divide, remainder, concat, differ, less_than, at_most, more_than, at_least, char_at, Expr, val, slot, local, constant, one, two, equal, both, either, choose, apply, build, let_in, put, filled, has_slot}
 use Rattle.txs_terms.specs.Rules.{In}
-use Rattle.txs_guard.specs.Atom.{has_value, fixed_value, value_in, is_equality, is_whole_side, is_comparison, is_order_sign, is_order_atom, all_order, atoms_of_all}
+use Rattle.txs_guard.specs.Atom.{has_value, fixed_value, value_in, is_equality, is_integer_side, is_comparison, is_order_sign, is_order_atom, all_order, atoms_of_all}
 use Rattle.txs_guard.specs.Candidates.{cells, order_candidates, least}
 use Rattle.txs_guard.specs.Mentioned.{Path, flat, some_list, sides_of, constants_of, constants, numbers, texts, numbers_in, texts_in, mentioned, paths_at}
 use Rattle.txs_guard.specs.Place.{Spot, spot_of, spot_type, is_type, same_ty, is_plain, same_types, has_spot}
@@ -54,20 +54,20 @@ entered t r r' e = ap (λ (x : Run). cond t x (bad long)) e
 -- ---- types
 
 same_ty-true : (t u : Ty) → same_ty t u ≡ true → u ≡ t
-same_ty-true whole whole e = refl
+same_ty-true integer integer e = refl
 same_ty-true truth truth e = refl
 same_ty-true string string e = refl
 same_ty-true (named j) (named k) e = ap named (sym (eqb-true j k e))
-same_ty-true whole truth e = cc
-same_ty-true whole string e = cc
-same_ty-true whole (named k) e = cc
-same_ty-true truth whole e = cc
+same_ty-true integer truth e = cc
+same_ty-true integer string e = cc
+same_ty-true integer (named k) e = cc
+same_ty-true truth integer e = cc
 same_ty-true truth string e = cc
 same_ty-true truth (named k) e = cc
-same_ty-true string whole e = cc
+same_ty-true string integer e = cc
 same_ty-true string truth e = cc
 same_ty-true string (named k) e = cc
-same_ty-true (named j) whole e = cc
+same_ty-true (named j) integer e = cc
 same_ty-true (named j) truth e = cc
 same_ty-true (named j) string e = cc
 
@@ -280,15 +280,15 @@ module _ (q : Query) (p : List Value) (point : IsPoint q p) (e : Expr) (among : 
   plain_same : (u : Ty) (x y : Value) (ps rs : List Path) → is_plain (Some u) ≡ true → has_type q.defs.table x u ≡ true → has_type q.defs.table y u ≡ true
       → In [] ps → In [] rs → Known (IsNumber q p) (IsText q p) ps (Some x) → Known (IsNumber q p) (IsText q p) rs (Some y)
       → same_value (squash (shape q p) ps x) (squash (shape q p) rs y) ≡ same_value x y
-  plain_same whole (num x) (num y) ps rs h hx hy ix iy kx ky =
+  plain_same integer (num x) (num y) ps rs h hx hy ix iy kx ky =
       (pressed_order (least (pos 0) (numbers q)) (pos 0 ∷ numbers q) (numbers_there q p) x y (least_is (pos 0) (numbers q))
       (kx.0 [] x ix refl) (ky.0 [] y iy refl)).4
-  plain_same whole (num x) (bool y) ps rs h hx hy ix iy kx ky = cc
-  plain_same whole (num x) (text y) ps rs h hx hy ix iy kx ky = cc
-  plain_same whole (num x) (cons d ys) ps rs h hx hy ix iy kx ky = cc
-  plain_same whole (bool x) y ps rs h hx hy ix iy kx ky = cc
-  plain_same whole (text x) y ps rs h hx hy ix iy kx ky = cc
-  plain_same whole (cons c xs) y ps rs h hx hy ix iy kx ky = cc
+  plain_same integer (num x) (bool y) ps rs h hx hy ix iy kx ky = cc
+  plain_same integer (num x) (text y) ps rs h hx hy ix iy kx ky = cc
+  plain_same integer (num x) (cons d ys) ps rs h hx hy ix iy kx ky = cc
+  plain_same integer (bool x) y ps rs h hx hy ix iy kx ky = cc
+  plain_same integer (text x) y ps rs h hx hy ix iy kx ky = cc
+  plain_same integer (cons c xs) y ps rs h hx hy ix iy kx ky = cc
   plain_same truth (bool x) (bool y) ps rs h hx hy ix iy kx ky = refl
   plain_same truth (bool x) (num y) ps rs h hx hy ix iy kx ky = cc
   plain_same truth (bool x) (text y) ps rs h hx hy ix iy kx ky = cc
@@ -379,7 +379,7 @@ module _ (q : Query) (p : List Value) (point : IsPoint q p) (e : Expr) (among : 
     pub alike : (left n : ℕ) → run q.defs left (put (filled (cell_of q p)) a) n ≡ map_run changes (run q.defs left (put (filled p) a) n)
     pub like : IsNumberLike a changes
 
-  place_like : (s : Spot) (w : Value) → has_type q.defs.table w whole ≡ true → In [] (along s.path (paths_at s.base (mentioned q)))
+  place_like : (s : Spot) (w : Value) → has_type q.defs.table w integer ≡ true → In [] (along s.path (paths_at s.base (mentioned q)))
       → Known (IsNumber q p) (IsText q p) (along s.path (paths_at s.base (mentioned q))) (Some w) → NumberLike q p (squashes s) w
   unfolding squashes
   place_like s (num x) t i k = as_number x refl (k.0 [] x i refl)
@@ -404,23 +404,23 @@ module _ (q : Query) (p : List Value) (point : IsPoint q p) (e : Expr) (among : 
         like = λ l m n w r. subst (NumberLike q p (λ z. z)) (sym (closed_value a v.0 v.1 l m n w r)) (constant_like v.0 (constant_among a v.0 ha v.1));
       }
 
-  placed_side : (a : Expr) → In a (sides_of e) → (o : Option Spot) → spot_of a ≡ o → is_type whole (spot_type q o) ≡ true → WholeSide a
+  placed_side : (a : Expr) → In a (sides_of e) → (o : Option Spot) → spot_of a ≡ o → is_type integer (spot_type q o) ≡ true → WholeSide a
   placed_side a ha None hs h = cc
   placed_side a ha (Some s) hs h =
       record {
         changes = squashes s;
         alike = place_runs a s ha hs;
-        like = λ l m n w r. place_like s w (typed_there a s whole hs (type_is whole (spot_type q (Some s)) h) l m n w r) (mention a s ha hs) (known_there a s hs l m n w r);
+        like = λ l m n w r. place_like s w (typed_there a s integer hs (type_is integer (spot_type q (Some s)) h) l m n w r) (mention a s ha hs) (known_there a s hs l m n w r);
       }
 
-  whole_side : (a : Expr) → In a (sides_of e) → is_whole_side q a ≡ true → WholeSide a
+  whole_side : (a : Expr) → In a (sides_of e) → is_integer_side q a ≡ true → WholeSide a
   whole_side a ha h = elim (or_cases _ _ h) [ inl x ↦ placed_side a ha (spot_of a) refl x | inr y ↦ fixed_side a ha y ]
 
   order_alike : (o : Binary) (a b : Expr) → is_order_sign o ≡ true → In a (sides_of e) → In b (sides_of e) → is_comparison q a b ≡ true
       → BothRun (λ x y. after (binary o x y)) a b
   order_alike o a b ho ha hb h left n =
-      let x = and_parts (is_whole_side q a) (is_whole_side q b && (has_spot (spot_of a) || has_spot (spot_of b))) h in
-      let y = and_parts (is_whole_side q b) (has_spot (spot_of a) || has_spot (spot_of b)) x.1 in
+      let x = and_parts (is_integer_side q a) (is_integer_side q b && (has_spot (spot_of a) || has_spot (spot_of b))) h in
+      let y = and_parts (is_integer_side q b) (has_spot (spot_of a) || has_spot (spot_of b)) x.1 in
       let s = whole_side a ha x.0 in
       let t = whole_side b hb y.0 in
       two_alike (run q.defs left (put (filled p) a) n) (run q.defs left (put (filled (cell_of q p)) a) n)

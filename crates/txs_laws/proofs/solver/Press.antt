@@ -7,7 +7,7 @@ use Rattle.std.proofs.lemmas.Bool.{or_cases, or_left, or_right, false_from_ne_tr
 use Rattle.std.proofs.lemmas.Bool.Decides.{Decides-int_eq, Decides-ltb}
 use Rattle.txs_values.specs.Value.{fits}
 use Rattle.txs_terms.specs.Rules.{In}
-use Rattle.txs_guard.specs.Candidates.{insert, run_up, least, sort_in_range, runs_up, whole_candidates}
+use Rattle.txs_guard.specs.Candidates.{insert, run_up, least, sort_in_range, runs_up, integer_candidates}
 use Rattle.txs_guard.specs.Mentioned.{any_is}
 use Rattle.txs_laws.proofs.rules.Lists.{In_front, In_back}
 use Rattle.txs_laws.proofs.solver.Climb.{climb, climb_within, climb_strict, climb_fixed, above, marked_few, up_test, down_test, none_at, pressed, Side, up, down, side_of, pressed_up, pressed_down}
@@ -220,7 +220,7 @@ same_down : (l : ℤ) (i j : ℕ) → l -ℤ pos i ≡ l -ℤ pos j → i ≡ j
 same_down l i j e = omega (arith, ints)
 
 candidate_by : (n : ℕ) (ks xs : List ℤ) (x : ℤ) → length xs ≤ n → (fits (least (pos 0) ks) ≡ true) → fits x ≡ true
-    → Side (least (pos 0) ks) x → In (pressed (least (pos 0) ks) (pos 0 ∷ ks) xs x) (whole_candidates n ks)
+    → Side (least (pos 0) ks) x → In (pressed (least (pos 0) ks) (pos 0 ∷ ks) xs x) (integer_candidates n ks)
 candidate_by n ks xs x few fl fx (up i e) =
     let l = least (pos 0) ks in
     let p = pressed_up l (pos 0 ∷ ks) xs x i e in
@@ -258,5 +258,5 @@ least_fits ks h =
 
 -- a number of the range goes to a candidate
 pub pressed_candidate : (n : ℕ) (ks xs : List ℤ) (x : ℤ) → length xs ≤ n → ((k : ℤ) → In k ks → fits k ≡ true) → fits x ≡ true
-    → In (pressed (least (pos 0) ks) (pos 0 ∷ ks) xs x) (whole_candidates n ks)
+    → In (pressed (least (pos 0) ks) (pos 0 ∷ ks) xs x) (integer_candidates n ks)
 pressed_candidate n ks xs x few hk fx = candidate_by n ks xs x few (least_fits ks hk) fx (side_of (least (pos 0) ks) x)

@@ -3,7 +3,7 @@ use Rattle.std.proofs.Common.{◌≡◌, ℕ, zero, suc, ℤ, pos, negsuc, ◌+�
 use Rattle.std.specs.Prelude.{Option, Some, None}
 use Rattle.std.proofs.lemmas.Int.{ints}
 use Rattle.txs_terms.specs.Action.{from}
-use Rattle.txs_values.specs.Value.{Ty, whole, truth, string, named, Value, num, bool, cons, no_value, Table, Field, place_of, has_type, has_fields, HaveTypes, fits}
+use Rattle.txs_values.specs.Value.{Ty, integer, truth, string, named, Value, num, bool, cons, no_value, Table, Field, place_of, has_type, has_fields, HaveTypes, fits}
 use Rattle.txs_terms.specs.Expr.{Binary, plus, minus, times, divide, remainder, concat, differ, less_than, at_most, more_than, at_least, char_at, Expr, val, slot, local, constant, one, two, equal, both, either, choose, apply, build, let_in}
 use Rattle.txs_terms.specs.Rules.{In}
 use Rattle.txs_terms.specs.Typed.{Signatures, AreTyped, AreGuards}
@@ -130,7 +130,7 @@ module _ (table : Table) where
   AllOf t vs = (w : Value) → In w vs → has_type table w t ≡ true
 
   between_typed : (ls hs : List ℤ) (vs : List Value) → between ls hs ≡ Some vs
-      → ((y : ℤ) → In y ls → (k : ℤ) × (fits k ≡ true) × (k ≤ℤ y)) → ((y : ℤ) → In y hs → (k : ℤ) × (fits k ≡ true) × (y ≤ℤ k)) → AllOf whole vs
+      → ((y : ℤ) → In y ls → (k : ℤ) × (fits k ≡ true) × (k ≤ℤ y)) → ((y : ℤ) → In y hs → (k : ℤ) × (fits k ≡ true) × (y ≤ℤ k)) → AllOf integer vs
   between_typed [] hs vs e a b w h = cc
   between_typed (l ∷ ls) [] vs e a b w h = cc
   between_typed (l ∷ ls) (u ∷ hs) vs e a b w h =
@@ -142,7 +142,7 @@ module _ (table : Table) where
       let r0 = r.0 in let r1 = r.1 in let x2 = x.2 in let y2 = y.2 in
       let g = greatest_ge l ls in
       let s = lowest_le u hs in
-      ap (λ (z : Value). has_type table z whole) m.2 ∙ fits_between x.0 y.0 m.0 x.1 y.1 (omega (arith, ints)) (omega (arith, ints))
+      ap (λ (z : Value). has_type table z integer) m.2 ∙ fits_between x.0 y.0 m.0 x.1 y.1 (omega (arith, ints)) (omega (arith, ints))
 
   -- constructors without fields
   one_made : (k c : ℕ) (o : Option (List Field)) (vs ws : List Value) → fields_of (place_of table c) k ≡ o
@@ -183,7 +183,7 @@ module _ (table : Table) where
         let v = b.value_is in (f.0, f.1, omega (arith, ints))
 
     value_typed : (i : ℕ) (t : Ty) (vs : List Value) → every_value table bs i t ≡ Some vs → AllOf t vs
-    value_typed i whole vs e w h = between_typed (bounds_for i true bs) (bounds_for i false bs) vs e (low_known i) (high_known i) w h
+    value_typed i integer vs e w h = between_typed (bounds_for i true bs) (bounds_for i false bs) vs e (low_known i) (high_known i) w h
     value_typed i truth vs e w h = pick (subst (λ (z : List Value). In w z) (sym (some_list_same e)) h)
       where
         pick : In w (bool false ∷ bool true ∷ []) → has_type table w truth ≡ true

@@ -5,7 +5,7 @@ use Rattle.std.specs.Ordering.{int_eq}
 use Rattle.std.proofs.lemmas.Bool.{and_from}
 use Rattle.txs_terms.specs.Action.{from}
 use Rattle.txs_values.specs.Default.{default_of}
-use Rattle.txs_values.specs.Value.{fields_in, field_types, Ty, whole, truth, string, named, Value, num, text, cons, packed, Table, Field, Place, place_of, fits, has_type, has_fields, HaveTypes}
+use Rattle.txs_values.specs.Value.{fields_in, field_types, Ty, integer, truth, string, named, Value, num, text, cons, packed, Table, Field, Place, place_of, fits, has_type, has_fields, HaveTypes}
 use Rattle.txs_terms.specs.Rules.{In}
 use Rattle.txs_terms.specs.Typed.{IsType, AreTypes, IsTable}
 use Rattle.txs_guard.specs.Candidates.{order_candidates, with_each, cells, insert, sort_in_range, run_up, runs_up, least, Pools, pools_of, count_made, fields_of, field_choices, each_field, made_choices, choices, longest, slot_choices}
@@ -64,7 +64,7 @@ types_of (Some p) k fs e = go (eqb p.ty k) e
     go true e = let q : p.constructor.fields ≡ fs = cc in ap (λ (z : List Field). Some (field_types z)) q
     go false e = cc
 
-module _ (table : Table) (default : Ty → Value) (pools : Pools) (inside : (x : ℤ) → In x pools.whole_pool → fits x ≡ true)
+module _ (table : Table) (default : Ty → Value) (pools : Pools) (inside : (x : ℤ) → In x pools.integer_pool → fits x ≡ true)
     (defaults : (c : ℕ) (p : Place) (f : Field) → place_of table c ≡ Some p → In f p.constructor.fields → has_type table (default f.ty) f.ty ≡ true) where
   abbrev Makes : (Ty → List Path → List Value) → Type 0
   Makes go = (t : Ty) (ps : List Path) (v : Value) → In v (go t ps) → has_type table v t ≡ true
@@ -103,8 +103,8 @@ module _ (table : Table) (default : Ty → Value) (pools : Pools) (inside : (x :
       ap (λ (z : Value). has_type table z (named k)) m.2 ∙ (ap (λ (z : Option (List Ty)). has_fields table (packed m.0) z) (types_of (place_of table c) k fs e) ∙ a)
 
   choices_typed : (left : ℕ) → Makes (choices table default pools left)
-  choices_typed left whole ps v h =
-      let m = In-map num v pools.whole_pool h in ap (λ (z : Value). has_type table z whole) m.2 ∙ inside m.0 m.1
+  choices_typed left integer ps v h =
+      let m = In-map num v pools.integer_pool h in ap (λ (z : Value). has_type table z integer) m.2 ∙ inside m.0 m.1
   choices_typed left truth ps v (inl e) = ap (λ (z : Value). has_type table z truth) e
   choices_typed left truth ps v (inr (inl e)) = ap (λ (z : Value). has_type table z truth) e
   choices_typed left truth ps v (inr (inr h)) = absurd h
@@ -129,7 +129,7 @@ DefaultsAreTyped table = (c : ℕ) (p : Place) (f : Field) → place_of table c 
 pub cells_are_points : (q : Query) → DefaultsAreTyped q.defs.table → (c : List Value) → In c (cells (order_candidates q)) → IsPoint q c
 cells_are_points q d c h =
     slots_typed q.defs.table (default_of q.defs.table) (pools_of q)
-    (λ x i. sorted_fits x (run_up (least (pos 0) (numbers q) -ℤ pos (length (places_with q whole))) (length (places_with q whole)) ++ runs_up (length (places_with q whole)) (pos 0 ∷ numbers q)) i)
+    (λ x i. sorted_fits x (run_up (least (pos 0) (numbers q) -ℤ pos (length (places_with q integer))) (length (places_with q integer)) ++ runs_up (length (places_with q integer)) (pos 0 ∷ numbers q)) i)
     d (suc (longest (mentioned q))) (mentioned q) 0 q.slots c h
 
 -- ---- defaults of fields

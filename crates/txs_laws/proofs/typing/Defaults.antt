@@ -2,7 +2,7 @@
 use Rattle.std.proofs.Common.{◌≡◌, ℕ, zero, suc, ◌+◌, pos, true, false, List, [], ◌∷◌, length, map, refl, sym, ap, ◌∙◌, arith}
 use Rattle.std.specs.Prelude.{Option, Some, None, slice_get}
 use Rattle.std.proofs.lemmas.Bool.{and_from}
-use Rattle.txs_values.specs.Value.{Ty, whole, truth, string, named, Value, num, bool, text, cons, packed, Table, TypeDef, Constructor, Field, place_of, place_from, fits, has_type, has_fields, field_types, HasType}
+use Rattle.txs_values.specs.Value.{Ty, integer, truth, string, named, Value, num, bool, text, cons, packed, Table, TypeDef, Constructor, Field, place_of, place_from, fits, has_type, has_fields, field_types, HasType}
 use Rattle.txs_values.specs.Default.{all_defaults, first_made, ranked, next_round, rounds, default_if, or_zero, default_of}
 use Rattle.txs_terms.specs.Typed.{IsType, IsTable}
 use Rattle.txs_terms.proofs.typing.Numbers.{place_at, among_these, StandsAt, stands_first, stands_next, fields_same}
@@ -61,7 +61,7 @@ module _ (table : Table) where
 
   ranked_gives : (os : List (Option Value)) → AreRanked os 0 → Gives (ranked os)
   unfolding AreRanked Gives
-  ranked_gives os h whole v e = let q : num (pos 0) ≡ v = cc in ap (λ (z : Value). has_type table z whole) (sym q) ∙ zero_fits
+  ranked_gives os h integer v e = let q : num (pos 0) ≡ v = cc in ap (λ (z : Value). has_type table z integer) (sym q) ∙ zero_fits
   ranked_gives os h truth v e = let q : bool false ≡ v = cc in ap (λ (z : Value). has_type table z truth) (sym q)
   ranked_gives os h string v e = let q : text [] ≡ v = cc in ap (λ (z : Value). has_type table z string) (sym q)
   ranked_gives os h (named k) v e = go (slice_get os k) refl e
@@ -102,7 +102,7 @@ module _ (table : Table) where
   found_typed t v e = ap (λ (o : Option Value). has_type table (or_zero o) t) e ∙ ranked_gives (rounds (length table) table) (rounds_typed (length table)) t v e
 
 pub default_typed : (table : Table) → IsTable table → (t : Ty) → IsType table t → HasType table (default_of table t) t
-default_typed table h whole k = found_typed table whole (num (pos 0)) refl
+default_typed table h integer k = found_typed table integer (num (pos 0)) refl
 default_typed table h truth k = found_typed table truth (bool false) refl
 default_typed table h string k = found_typed table string (text []) refl
 default_typed table h (named i) k = let p = h.defaults i k in found_typed table (named i) p.0 p.1

@@ -2,7 +2,7 @@
 use Rattle.std.specs.Prelude.{ℤ, Option, Some, None, slice_get}
 use Rattle.std.proofs.Common.{◌≡◌, ℕ, zero, suc, Bool, true, false, cond, eqb, ltb, List, [], ◌∷◌, ◌++◌, refl, sym, subst}
 use Rattle.std.proofs.lemmas.Bool.{and_parts, and_from, eqb-true}
-use Rattle.txs_values.specs.Value.{Ty, whole, truth, string, named, Value, num, bool, text, cons, Values, no_value, and_value, listed, packed, size, height, Table, Constructor, place_of, field_types, fields_in, has_type, has_fields, HasType, HaveTypes, fits, value_size_limit, value_height_limit}
+use Rattle.txs_values.specs.Value.{Ty, integer, truth, string, named, Value, num, bool, text, cons, Values, no_value, and_value, listed, packed, size, height, Table, Constructor, place_of, field_types, fields_in, has_type, has_fields, HasType, HaveTypes, fits, value_size_limit, value_height_limit}
 use Rattle.txs_values.specs.Spelling.{read_text}
 use Rattle.txs_terms.specs.Expr.{Unary, Binary, divide, remainder, concat, differ, char_at}
 use Rattle.txs_terms.specs.Eval.{Fault, division, range, selector, form, high, long, big, wrong, Outcome, fine, broken, in_range, sized, selected, spelled, text_to, unary, binary, whole_binary, divided, char_of, char_from}
@@ -67,10 +67,10 @@ module _ (table : Table) where
   IsFine t (fine v) = HasType table v t
   IsFine t (broken f) = IsRight f
 
-  in_range_fine : (x : ℤ) → IsFine whole (in_range x)
+  in_range_fine : (x : ℤ) → IsFine integer (in_range x)
   in_range_fine x = by (fits x) refl
     where
-      by : (b : Bool) → fits x ≡ b → IsFine whole (cond b (fine (num x)) (broken range))
+      by : (b : Bool) → fits x ≡ b → IsFine integer (cond b (fine (num x)) (broken range))
       by true e = e
       by false e = tt
 
@@ -91,7 +91,7 @@ module _ (table : Table) where
 
   text_fine : (t : Ty) (bs : List ℕ) → IsFine t (text_to table t bs)
   text_fine string bs = refl
-  text_fine whole bs = spelled_fine whole (read_text table whole bs) (read_typed table whole bs)
+  text_fine integer bs = spelled_fine integer (read_text table integer bs) (read_typed table integer bs)
   text_fine truth bs = spelled_fine truth (read_text table truth bs) (read_typed table truth bs)
   text_fine (named k) bs = spelled_fine (named k) (read_text table (named k) bs) (read_typed table (named k) bs)
 
@@ -145,17 +145,17 @@ module _ (table : Table) where
 
   -- ---- two operands
 
-  divide_fine : (x y : ℤ) → IsFine whole (divided divide x y)
+  divide_fine : (x y : ℤ) → IsFine integer (divided divide x y)
   divide_fine x (ℤ.pos zero) = tt
   divide_fine x (ℤ.pos (suc n)) = in_range_fine _
   divide_fine x (ℤ.negsuc n) = in_range_fine _
 
-  remainder_fine : (x y : ℤ) → IsFine whole (divided remainder x y)
+  remainder_fine : (x y : ℤ) → IsFine integer (divided remainder x y)
   remainder_fine x (ℤ.pos zero) = tt
   remainder_fine x (ℤ.pos (suc n)) = in_range_fine _
   remainder_fine x (ℤ.negsuc n) = in_range_fine _
 
-  whole_fine : {o : Binary} {r s t : Ty} → BinaryOf o r s t → r ≡ whole → s ≡ whole → (x y : ℤ) → IsFine t (whole_binary o x y)
+  whole_fine : {o : Binary} {r s t : Ty} → BinaryOf o r s t → r ≡ integer → s ≡ integer → (x y : ℤ) → IsFine t (whole_binary o x y)
   whole_fine plus_of a b x y = in_range_fine _
   whole_fine minus_of a b x y = in_range_fine _
   whole_fine times_of a b x y = in_range_fine _
@@ -170,7 +170,7 @@ module _ (table : Table) where
   whole_fine char_at_of a b x y = cc
 
   -- a value of type Int is a number, and so on
-  num_of : (x : Value) → HasType table x whole → (n : ℤ) × (x ≡ num n)
+  num_of : (x : Value) → HasType table x integer → (n : ℤ) × (x ≡ num n)
   num_of (num n) h = (n, refl)
   num_of (bool b) h = cc
   num_of (text b) h = cc
@@ -182,7 +182,7 @@ module _ (table : Table) where
   text_of_type (text b) h = (b, refl)
   text_of_type (cons c vs) h = cc
 
-  by_whole : {o : Binary} {t : Ty} → BinaryOf o whole whole t → (x y : Value) → HasType table x whole → HasType table y whole → IsFine t (binary o x y)
+  by_whole : {o : Binary} {t : Ty} → BinaryOf o integer integer t → (x y : Value) → HasType table x integer → HasType table y integer → IsFine t (binary o x y)
   by_whole {o = o} {t = t} b x y h k =
       let p = num_of x h in let q = num_of y k in
       subst (λ z. IsFine t (binary o z y)) (sym p.1) (subst (λ z. IsFine t (binary o (num p.0) z)) (sym q.1) (whole_fine b refl refl p.0 q.0))
@@ -200,7 +200,7 @@ module _ (table : Table) where
   char_from_fine bs (ℤ.pos i) = char_of_fine _
   char_from_fine bs (ℤ.negsuc i) = tt
 
-  char_fine : (x y : Value) → HasType table x string → HasType table y whole → IsFine string (binary char_at x y)
+  char_fine : (x y : Value) → HasType table x string → HasType table y integer → IsFine string (binary char_at x y)
   char_fine x y h k =
       let p = text_of_type x h in let q = num_of y k in
       subst (λ z. IsFine string (binary char_at z y)) (sym p.1) (subst (λ z. IsFine string (binary char_at (text p.0) z)) (sym q.1) (char_from_fine p.0 q.0))

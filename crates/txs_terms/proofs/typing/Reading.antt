@@ -3,7 +3,7 @@ use Rattle.std.specs.Prelude.{ℤ, Option, Some, None, slice_get}
 use Rattle.std.proofs.Common.{◌≡◌, ℕ, zero, suc, ◌+◌, Bool, true, false, cond, List, [], ◌∷◌, length, refl, sym, ap, ◌∙◌, subst, arith}
 use Rattle.std.proofs.lemmas.Bool.{and_from}
 use Rattle.std.specs.Prelude.{bytes_eq, nat_le}
-use Rattle.txs_values.specs.Value.{Ty, whole, truth, string, named, Value, num, Values, no_value, Field, Constructor, TypeDef, Table, place_of, place_from, field_types, fits, fields_in, has_type, has_fields, HasType, size, value_size_limit, value_height_limit}
+use Rattle.txs_values.specs.Value.{Ty, integer, truth, string, named, Value, num, Values, no_value, Field, Constructor, TypeDef, Table, place_of, place_from, field_types, fits, fields_in, has_type, has_fields, HasType, size, value_size_limit, value_height_limit}
 use Rattle.txs_values.specs.Spelling.{Front, then_front, Made, made_in, made_from, count_of, Reader, whole_front, number_front, with_truth, truth_named, arguments_front, symbol_front, past_blanks, fields_front, with_made, level_front, value_front, name_front, text_front, last_value, alone, read_text}
 use Rattle.txs_terms.proofs.typing.Numbers.{place_at, among_these, StandsAt, stands_first, stands_next, fields_same}
 
@@ -101,15 +101,15 @@ module _ (table : Table) where
   truth_fits None rest = tt
   truth_fits (Some b) rest = refl
 
-  whole_fits : (bs : List ℕ) → Fits (IsOf whole) (whole_front bs)
-  whole_fits bs = then_fits (λ _. Unit {0}) (IsOf whole) (number_front bs) _ (any_fits _) (λ z rest _. by z rest (fits z) refl)
+  whole_fits : (bs : List ℕ) → Fits (IsOf integer) (whole_front bs)
+  whole_fits bs = then_fits (λ _. Unit {0}) (IsOf integer) (number_front bs) _ (any_fits _) (λ z rest _. by z rest (fits z) refl)
     where
-      by : (z : ℤ) (rest : List ℕ) (b : Bool) → fits z ≡ b → Fits (IsOf whole) (cond b (Some (record { value = num z; rest = rest })) None)
+      by : (z : ℤ) (rest : List ℕ) (b : Bool) → fits z ≡ b → Fits (IsOf integer) (cond b (Some (record { value = num z; rest = rest })) None)
       by z rest true e = e
       by z rest false e = tt
 
   level_fits : (below : Reader) → ReadsWell below → ReadsWell (level_front table below)
-  level_fits below h whole bs = whole_fits bs
+  level_fits below h integer bs = whole_fits bs
   level_fits below h truth bs = then_fits (λ _. Unit {0}) (IsOf truth) (name_front bs) _ (any_fits _) (λ name rest _. truth_fits (truth_named name) rest)
   level_fits below h string bs = then_fits (λ _. Unit {0}) (IsOf string) (text_front bs) _ (any_fits _) (λ t rest _. refl)
   level_fits below h (named k) bs =

@@ -5,7 +5,7 @@ use Rattle.std.specs.Str.{is_utf8}
 use Rattle.std.specs.Str.Parse.{signed_digits_value}
 use Rattle.txs_values.specs.declared.reading.Kind.{Kind}
 use Rattle.txs_values.specs.declared.reading.Kind.TheVariants.{Wrong, Past, Deep, Broken}
-use Rattle.txs_values.specs.Value.{Ty, whole, string, named, Value, num, bool, text, cons, Values, no_value, and_value, listed, packed, Field, Table, place_of, field_types, fits, HasType, has_type, has_fields, height, heights}
+use Rattle.txs_values.specs.Value.{Ty, integer, string, named, Value, num, bool, text, cons, Values, no_value, and_value, listed, packed, Field, Table, place_of, field_types, fits, HasType, has_type, has_fields, height, heights}
 use Rattle.txs_values.specs.Ints.{number_run, past_number, has_digit}
 use Rattle.txs_values.specs.Spelling.{is_blank, is_digit, is_name_byte, is_raw, past_blanks, run_of, past_run}
 use Rattle.txs_values.specs.Spelled.{AreBlanks, AreDigits, IsSign, no_sign, minus_sign, Quotes, nothing, as_it_is, escaped_by, Spells, a_number, a_true, a_false, a_text, a_constant, a_made, SpellsEach, the_last, one_more, IsNamed}
@@ -79,7 +79,7 @@ number-by bs run past d e f =
     ∙ ap (λ l. cond (fits (signed_digits_value 10 run)) (ok (num (signed_digits_value 10 run)) l) (stop Past (length bs))) f
 
 number-if : (table : Table) (left : ℕ) (bs run rest : List ℕ) → bs ≡ run ++ rest → (t : Bool) → fits (signed_digits_value 10 run) ≡ t
-    → Ends (Fine table left whole (num (signed_digits_value 10 run))) (cond t (ok (num (signed_digits_value 10 run)) rest) (stop Past (length bs))) (num (signed_digits_value 10 run)) rest
+    → Ends (Fine table left integer (num (signed_digits_value 10 run))) (cond t (ok (num (signed_digits_value 10 run)) rest) (stop Past (length bs))) (num (signed_digits_value 10 run)) rest
 number-if table left bs run rest p true e = inl refl
 number-if table left bs run rest p false e =
     let n : length bs ≡ length (run ++ rest) = ap length p in
@@ -87,7 +87,7 @@ number-if table left bs run rest p false e =
     inr (record { kind = Past; count = length bs; stops = refl; right = λ h. cc; within = omega (arith, n, m); broken = λ fine. let h : fits (signed_digits_value 10 run) ≡ true = fine.0 in absurd (cc) })
 
 number-ends : (table : Table) (left : ℕ) {sign : List ℕ} → IsSign sign → (d : ℕ) (ds rest : List ℕ) → AreDigits (d ∷ ds) → Stops is_name_byte rest
-    → Ends (Fine table left whole (num (signed_digits_value 10 (sign ++ d ∷ ds)))) (number_read ((sign ++ d ∷ ds) ++ rest)) (num (signed_digits_value 10 (sign ++ d ∷ ds))) rest
+    → Ends (Fine table left integer (num (signed_digits_value 10 (sign ++ d ∷ ds)))) (number_read ((sign ++ d ∷ ds) ++ rest)) (num (signed_digits_value 10 (sign ++ d ∷ ds))) rest
 number-ends table left {sign} sg d ds rest h s =
     let p = signed-run sg d ds rest h (stops-digit rest s) in
     let run : List ℕ = sign ++ d ∷ ds in

@@ -5,7 +5,7 @@ use Rattle.std.proofs.lemmas.List.{append-nil}
 use Rattle.std.specs.Str.Parse.{signed_digits_value}
 use Rattle.txs_values.specs.declared.reading.Kind.{Kind}
 use Rattle.txs_values.specs.declared.reading.Kind.TheVariants.{Wrong, Past, Deep, Broken}
-use Rattle.txs_values.specs.Value.{Ty, whole, named, Value, num, Table, field_types}
+use Rattle.txs_values.specs.Value.{Ty, integer, named, Value, num, Table, field_types}
 use Rattle.txs_values.specs.Text.{text_of}
 use Rattle.txs_values.specs.Spelling.{is_digit}
 use Rattle.txs_values.specs.Spelled.{IsSign, no_sign, minus_sign, AreDigits, Spells, a_number, IsSpelling}
@@ -34,7 +34,7 @@ module _ (table : Table) (t : Ty) (readable : IsReadable table t) where
   number-begins : (p r : List ℕ) → IsOutOfRange table t p r → BeginsIn table t p
   number-begins p r h =
       subst (BeginsIn table t) (ap (λ (l : List ℕ). h.front ++ l) (append-nil h.blanks) ∙ sym h.before)
-      (stands-begins table t readable h.stands (h.blanks ++ []) (blanks-begin table whole (stands-valued table t readable h.stands) h.blanks h.are_blanks))
+      (stands-begins table t readable h.stands (h.blanks ++ []) (blanks-begin table integer (stands-valued table t readable h.stands) h.blanks h.are_blanks))
 
   -- a longer front begins one, where not the form is wrong
   abbrev Longer : List ℕ → List ℕ → Type 0
@@ -44,7 +44,7 @@ module _ (table : Table) (t : Ty) (readable : IsReadable table t) where
   number-more p r h =
       let run : List ℕ = h.sign ++ h.first ∷ h.digits in
       let n = length-append h.sign (h.first ∷ h.digits) in
-      let b : BeginsIn table whole (h.blanks ++ run) = (num (signed_digits_value 10 run), [], subst (Spells table whole (num (signed_digits_value 10 run))) (sym (append-nil (h.blanks ++ run))) (a_number h.blanks h.sign h.first h.digits h.are_blanks h.is_sign h.are_digits)) in (
+      let b : BeginsIn table integer (h.blanks ++ run) = (num (signed_digits_value 10 run), [], subst (Spells table integer (num (signed_digits_value 10 run))) (sym (append-nil (h.blanks ++ run))) (a_number h.blanks h.sign h.first h.digits h.are_blanks h.is_sign h.are_digits)) in (
         run,
         h.more,
         h.here,

@@ -4,7 +4,7 @@ use Rattle.std.proofs.lemmas.Bool.{cond-false}
 use Rattle.std.specs.Str.Parse.{signed_digits_value}
 use Rattle.txs_values.specs.declared.reading.Kind.{Kind}
 use Rattle.txs_values.specs.declared.reading.Kind.TheVariants.{Past, Deep}
-use Rattle.txs_values.specs.Value.{Ty, whole, named, Value, num, cons, packed, Field, Table, place_of, field_types, fits, value_height_limit}
+use Rattle.txs_values.specs.Value.{Ty, integer, named, Value, num, cons, packed, Field, Table, place_of, field_types, fits, value_height_limit}
 use Rattle.txs_values.specs.Spelling.{past_blanks, is_digit}
 use Rattle.txs_values.specs.Spelled.{AreBlanks, IsNamed}
 use Rattle.txs_values.specs.Faults.{NoDigit, Leads, no_more, one_before, Stands, as_whole, as_argument, IsOutOfRange, IsDeep}
@@ -168,7 +168,7 @@ module _ (table : Table) (t : Ty) (is_named : IsNamed table) where
   digit-stops [] s = tt
   digit-stops (b ∷ l) s = s
 
-  whole-read : (left : ℕ) (bs : List ℕ) → value_read table left whole bs ≡ number_read (past_blanks bs)
+  whole-read : (left : ℕ) (bs : List ℕ) → value_read table left integer bs ≡ number_read (past_blanks bs)
   whole-read zero bs = refl
   whole-read (suc left) bs = refl
 
@@ -183,7 +183,7 @@ module _ (table : Table) (t : Ty) (is_named : IsNamed table) where
       let l : length (run ++ h.more) ≡ length r = ap length (sym h.here) in
       let m = shorter h.blanks (run ++ h.more) in
       subst (λ x. Early (lone_read table t x) r) q
-      (lone-early h.front (h.blanks ++ (run ++ h.more)) r h.level whole (stands-reach h.stands (h.blanks ++ (run ++ h.more)))
+      (lone-early h.front (h.blanks ++ (run ++ h.more)) r h.level integer (stands-reach h.stands (h.blanks ++ (run ++ h.more)))
       (λ left _. (
         Past,
         length (run ++ h.more),

@@ -1,7 +1,7 @@
 -- What is read at the front of a text is spelled there, is of its type, and is no higher than the levels that were left.
 use Rattle.std.proofs.Common.{◌≡◌, ℕ, zero, suc, ◌≤◌, ℤ, Bool, true, false, cond, ◌⊎◌, inl, inr, eq-eqb, List, [], ◌∷◌, ◌++◌, Option, Some, None, codes, refl, sym, ap, ◌∙◌, subst, append_assoc, append-nil, arith}
 use Rattle.std.proofs.lemmas.Bool.{and_from}
-use Rattle.txs_values.specs.Value.{Ty, whole, truth, string, named, Value, num, bool, text, cons, Values, no_value, and_value, Field, Table, place_of, field_types, fits, height, heights, fields_in, HasType, has_fields}
+use Rattle.txs_values.specs.Value.{Ty, integer, truth, string, named, Value, num, bool, text, cons, Values, no_value, and_value, Field, Table, place_of, field_types, fits, height, heights, fields_in, HasType, has_fields}
 use Rattle.txs_values.specs.Spelling.{past_blanks, Front, then_front, number_front, symbol_front, text_front, name_front, truth_named, Made, made_from, Reader, whole_front, with_truth, arguments_front, fields_front, with_made, level_front, value_front}
 use Rattle.txs_values.specs.Spelled.{AreBlanks, Spells, a_number, a_true, a_false, a_text, a_constant, a_made, SpellsEach, the_last, one_more}
 use Rattle.txs_values.proofs.spellings.Bytes.{blanks-parts}
@@ -144,20 +144,20 @@ module _ (table : Table) (left : ℕ) (below : Reader) (sound : Sound table left
 
   -- one level
   whole-if : (bs : List ℕ) (g : Front ℤ) (r : Front Value) → Number (past_blanks bs) g → (t : Bool) → fits g.value ≡ t
-      → cond t (Some (record { value = num g.value; rest = g.rest })) None ≡ Some r → Read table (suc left) whole bs r
+      → cond t (Some (record { value = num g.value; rest = g.rest })) None ≡ Some r → Read table (suc left) integer bs r
   whole-if bs g r n true e h =
       let b = behind-blanks bs (n.sign ++ n.first ∷ n.digits) g.rest n.parts in
-      subst (Read table (suc left) whole bs) (same_some h) (record {
+      subst (Read table (suc left) integer bs) (same_some h) (record {
         spelled = b.blanks ++ (n.sign ++ n.first ∷ n.digits);
         parts = b.parts;
-        spells = subst (λ z. Spells table whole (num z) (b.blanks ++ (n.sign ++ n.first ∷ n.digits))) (sym n.value)
+        spells = subst (λ z. Spells table integer (num z) (b.blanks ++ (n.sign ++ n.first ∷ n.digits))) (sym n.value)
             (a_number b.blanks n.sign n.first n.digits b.are_blanks n.is_sign n.are_digits);
         typed = e;
         low = omega arith;
       })
   whole-if bs g r n false e h = absurd (cc)
 
-  whole-read : (bs : List ℕ) (r : Front Value) → whole_front (past_blanks bs) ≡ Some r → Read table (suc left) whole bs r
+  whole-read : (bs : List ℕ) (r : Front Value) → whole_front (past_blanks bs) ≡ Some r → Read table (suc left) integer bs r
   whole-read bs r h =
       let p = then_front-some (number_front (past_blanks bs)) (λ z rest. cond (fits z) (Some (record { value = num z; rest = rest })) None) r h in
       whole-if bs p.0 r (number-parts (past_blanks bs) p.0 p.1) (fits p.0.value) refl p.2
@@ -232,7 +232,7 @@ module _ (table : Table) (left : ℕ) (below : Reader) (sound : Sound table left
       made-if bs k p.0 r (name-parts (past_blanks bs) p.0 p.1) (made_from 0 table k p.0.value) refl p.2
 
   level-read : (t : Ty) (bs : List ℕ) (r : Front Value) → level_front table below t (past_blanks bs) ≡ Some r → Read table (suc left) t bs r
-  level-read whole bs r h = whole-read bs r h
+  level-read integer bs r h = whole-read bs r h
   level-read truth bs r h = truth-read bs r h
   level-read string bs r h = text-read bs r h
   level-read (named k) bs r h = made-read bs k r h

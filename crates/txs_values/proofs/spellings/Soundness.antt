@@ -5,7 +5,7 @@ use Rattle.std.proofs.lemmas.List.{append-nil}
 use Rattle.std.specs.Str.Parse.{signed_digits_value}
 use Rattle.txs_values.specs.declared.reading.Kind.{Kind}
 use Rattle.txs_values.specs.declared.reading.Kind.TheVariants.{Wrong, Deep, Broken}
-use Rattle.txs_values.specs.Value.{Ty, whole, truth, string, named, Value, num, bool, text, cons, Values, no_value, and_value, packed, Field, Table, place_of, field_types, value_height_limit}
+use Rattle.txs_values.specs.Value.{Ty, integer, truth, string, named, Value, num, bool, text, cons, Values, no_value, and_value, packed, Field, Table, place_of, field_types, value_height_limit}
 use Rattle.txs_values.specs.Spelling.{is_digit}
 use Rattle.txs_values.proofs.spellings.Bytes.{Stops}
 use Rattle.txs_values.specs.Spelled.{AreBlanks, IsSign, Quotes, nothing, Spells, a_number, a_true, a_false, a_text, a_constant, a_made, the_last, one_more}
@@ -24,17 +24,17 @@ no-digit (b ∷ l) s = s
 -- ---- the values of the built-in types, behind blanks
 
 module _ (table : Table) (t : Ty) (left : ℕ) (front : List ℕ) (level : ℕ) (ws : List ℕ) (ab : AreBlanks ws) where
-  number-begins : (u : List ℕ) → IsSign u → BeginsIn table whole (ws ++ u)
-  number-begins u s = (num (signed_digits_value 10 (u ++ 48 ∷ [])), 48 ∷ [], subst (Spells table whole (num (signed_digits_value 10 (u ++ 48 ∷ [])))) (sym (append_assoc ws u (48 ∷ []))) (a_number ws u 48 [] ab s (refl, tt)))
+  number-begins : (u : List ℕ) → IsSign u → BeginsIn table integer (ws ++ u)
+  number-begins u s = (num (signed_digits_value 10 (u ++ 48 ∷ [])), 48 ∷ [], subst (Spells table integer (num (signed_digits_value 10 (u ++ 48 ∷ [])))) (sym (append_assoc ws u (48 ∷ []))) (a_number ws u 48 [] ab s (refl, tt)))
 
-  number-good : (v : Value) (u : List ℕ) → IsWhole v u → Good table left whole v (ws ++ u)
+  number-good : (v : Value) (u : List ℕ) → IsWhole v u → Good table left integer v (ws ++ u)
   number-good v u w =
-      subst (λ (l : List ℕ). Good table left whole v (ws ++ l)) (sym w.parts) (subst (λ x. Good table left whole x (ws ++ (w.sign ++ w.first ∷ w.digits))) (sym w.value)
+      subst (λ (l : List ℕ). Good table left integer v (ws ++ l)) (sym w.parts) (subst (λ x. Good table left integer x (ws ++ (w.sign ++ w.first ∷ w.digits))) (sym w.value)
       (record { spells = a_number ws w.sign w.first w.digits ab w.is_sign w.are_digits; typed = w.in_range; low = omega arith }))
 
-  pub whole-sound : Stands table t front level whole → Sound (IsReadable table t) number_read (λ v w. Good table left whole v (ws ++ w)) (λ k w r. Here table t k (front ++ (ws ++ w)) r)
+  pub whole-sound : Stands table t front level integer → Sound (IsReadable table t) number_read (λ v w. Good table left integer v (ws ++ w)) (λ k w r. Here table t k (front ++ (ws ++ w)) r)
   whole-sound st =
-      sound_map (IsReadable table t) number_read IsWhole (λ v w. Good table left whole v (ws ++ w)) (λ k w r. Here table t k (front ++ (ws ++ w)) r) (λ k w r. Here table t k (front ++ (ws ++ w)) r) number-good (λ k u r h. h)
+      sound_map (IsReadable table t) number_read IsWhole (λ v w. Good table left integer v (ws ++ w)) (λ k w r. Here table t k (front ++ (ws ++ w)) r) (λ k w r. Here table t k (front ++ (ws ++ w)) r) number-good (λ k u r h. h)
       (sound_number (IsReadable table t) (λ k w r. Here table t k (front ++ (ws ++ w)) r)
       (λ u r s. begun table t st (ws ++ u) r (λ _. number-begins u s))
       (λ r p. record {
@@ -299,7 +299,7 @@ module _ (table : Table) (t : Ty) (left level : ℕ) (front ws : List ℕ) (c k 
 module _ (table : Table) (t : Ty) (left level : ℕ) (front ws : List ℕ) (ab : AreBlanks ws) where
   pub level-sound : (below : Option Reader) → IsBelow table t below left level → (u : Ty) → Stands table t front level u
       → Sound (IsReadable table t) (level_read table below u) (λ v w. Good table left u v (ws ++ w)) (λ q w r. Here table t q (front ++ (ws ++ w)) r)
-  level-sound below ib whole st = whole-sound table t left front level ws ab st
+  level-sound below ib integer st = whole-sound table t left front level ws ab st
   level-sound below ib truth st = truth-sound table t left front level ws ab st
   level-sound below ib string st = text-sound table t left front level ws ab st
   level-sound below ib (named k) st =

@@ -2,7 +2,7 @@
 use Rattle.std.proofs.Common.{◌≡◌, ℕ, true, false, List, [], ◌∷◌, ◌++◌, Some, codes, refl, sym, ap, subst, ◌∙◌, append_assoc}
 use Rattle.std.proofs.lemmas.List.{append-nil}
 use Rattle.std.specs.Str.Parse.{signed_digits_value}
-use Rattle.txs_values.specs.Value.{Ty, whole, truth, string, named, Value, num, bool, text, cons, Values, no_value, and_value, Field, Table, place_of, field_types}
+use Rattle.txs_values.specs.Value.{Ty, integer, truth, string, named, Value, num, bool, text, cons, Values, no_value, and_value, Field, Table, place_of, field_types}
 use Rattle.txs_values.specs.Text.{text_of}
 use Rattle.txs_values.specs.Spelled.{AreBlanks, Spells, a_number, a_true, a_false, a_text, a_constant, a_made, SpellsEach, the_last, one_more}
 use Rattle.txs_values.specs.Faults.{HasValue, HaveValues, IsReadable, Begins, Leads, no_more, one_before, Stands, as_whole, as_argument}
@@ -27,7 +27,7 @@ moved table u v a b c s = subst (Spells table u v) (append_assoc a b c) s
 
 -- blanks before a spelling
 pub blanks-spells : {table : Table} {u : Ty} {v : Value} {x : List ℕ} → Spells table u v x → (ws : List ℕ) → AreBlanks ws → Spells table u v (ws ++ x)
-blanks-spells {table} (a_number bl sign d ds ab sg ad) ws aw = moved table whole (num (signed_digits_value 10 (sign ++ d ∷ ds))) ws bl (sign ++ d ∷ ds) (a_number (ws ++ bl) sign d ds (blanks-append ws bl aw ab) sg ad)
+blanks-spells {table} (a_number bl sign d ds ab sg ad) ws aw = moved table integer (num (signed_digits_value 10 (sign ++ d ∷ ds))) ws bl (sign ++ d ∷ ds) (a_number (ws ++ bl) sign d ds (blanks-append ws bl aw ab) sg ad)
 blanks-spells {table} (a_true bl ab) ws aw = moved table truth (bool true) ws bl (codes "True") (a_true (ws ++ bl) (blanks-append ws bl aw ab))
 blanks-spells {table} (a_false bl ab) ws aw = moved table truth (bool false) ws bl (codes "False") (a_false (ws ++ bl) (blanks-append ws bl aw ab))
 blanks-spells {table} (a_text bl bs xs ab q) ws aw = moved table string (text bs) ws bl (34 ∷ (xs ++ 34 ∷ [])) (a_text (ws ++ bl) bs xs (blanks-append ws bl aw ab) q)

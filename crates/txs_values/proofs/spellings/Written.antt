@@ -7,7 +7,7 @@ use Rattle.std.specs.Char.{digit_value}
 use Rattle.std.specs.Fmt.{decimal, signed_decimal}
 use Rattle.std.specs.Int.Signed.{mag}
 use Rattle.std.specs.Str.Parse.{AllDigits, IsNumeral, digits_value, signed_digits_value}
-use Rattle.txs_values.specs.Value.{Ty, whole, truth, string, named, Value, num, bool, text, cons, Values, no_value, and_value, Field, Table, Place, place_of, field_types, fits, fields_in, HasType, has_type, has_fields}
+use Rattle.txs_values.specs.Value.{Ty, integer, truth, string, named, Value, num, bool, text, cons, Values, no_value, and_value, Field, Table, Place, place_of, field_types, fits, fields_in, HasType, has_type, has_fields}
 use Rattle.txs_values.specs.Spelling.{is_digit}
 use Rattle.txs_values.specs.Text.{escaped, name_of, text_of, texts_of}
 use Rattle.txs_values.specs.Spelled.{AreDigits, no_sign, minus_sign, Quotes, nothing, as_it_is, escaped_by, Spells, a_number, a_true, a_false, a_text, a_constant, a_made, SpellsEach, the_last, one_more, IsSpelling}
@@ -36,21 +36,21 @@ plain-value d ds h = let s = digit-signless d h.0 in no-sign (d ∷ ds) (eqb d 4
 minus-value : (ds : List ℕ) → signed_digits_value 10 (45 ∷ ds) ≡ neg_ℤ (pos (digits_value 10 ds))
 minus-value ds = refl
 
-plain-spells : (table : Table) (n : ℕ) (ds : List ℕ) → IsNumeral 10 ds → digits_value 10 ds ≡ n → Spells table whole (num (pos n)) ds
+plain-spells : (table : Table) (n : ℕ) (ds : List ℕ) → IsNumeral 10 ds → digits_value 10 ds ≡ n → Spells table integer (num (pos n)) ds
 plain-spells table n [] h e = absurd (omega (arith, h))
 plain-spells table n (d ∷ ds) h e =
-    subst (λ z. Spells table whole (num z) (d ∷ ds)) (plain-value d ds h.1 ∙ ap pos e) (a_number [] [] d ds tt no_sign (are-digits (d ∷ ds) h.1))
+    subst (λ z. Spells table integer (num z) (d ∷ ds)) (plain-value d ds h.1 ∙ ap pos e) (a_number [] [] d ds tt no_sign (are-digits (d ∷ ds) h.1))
 
-minus-spells : (table : Table) (n : ℕ) (ds : List ℕ) → IsNumeral 10 ds → digits_value 10 ds ≡ suc n → Spells table whole (num (negsuc n)) (45 ∷ ds)
+minus-spells : (table : Table) (n : ℕ) (ds : List ℕ) → IsNumeral 10 ds → digits_value 10 ds ≡ suc n → Spells table integer (num (negsuc n)) (45 ∷ ds)
 minus-spells table n [] h e = absurd (omega (arith, h))
 minus-spells table n (d ∷ ds) h e =
-    subst (λ z. Spells table whole (num z) (45 ∷ d ∷ ds)) (minus-value (d ∷ ds) ∙ ap (λ i. neg_ℤ (pos i)) e) (a_number [] (45 ∷ []) d ds tt minus_sign (are-digits (d ∷ ds) h.1))
+    subst (λ z. Spells table integer (num z) (45 ∷ d ∷ ds)) (minus-value (d ∷ ds) ∙ ap (λ i. neg_ℤ (pos i)) e) (a_number [] (45 ∷ []) d ds tt minus_sign (are-digits (d ∷ ds) h.1))
 
 small : (z : ℤ) → fits z ≡ true → mag z < 2 ^ 127
 unfolding fits
 small z h = ltb-true (mag z) (2 ^ 127) h
 
-number-spells : (table : Table) (z : ℤ) → mag z < 2 ^ 127 → Spells table whole (num z) (signed_decimal z)
+number-spells : (table : Table) (z : ℤ) → mag z < 2 ^ 127 → Spells table integer (num z) (signed_decimal z)
 number-spells table (pos n) h = let d = decimal_is_IsNumeral_wide n (omega arith) in plain-spells table n (decimal n) d.0 d.1
 number-spells table (negsuc n) h = let d = decimal_is_IsNumeral_wide (suc n) (omega arith) in minus-spells table n (decimal (suc n)) d.0 d.1
 
@@ -106,20 +106,20 @@ made-spells table c k name (f ∷ fs) v vs ws more e h each =
 
 mutual
   pub text-spells : (table : Table) (v : Value) (t : Ty) → HasType table v t → Spells table t v (text_of table v)
-  text-spells table (num z) whole h = number-spells table z (small z h)
+  text-spells table (num z) integer h = number-spells table z (small z h)
   text-spells table (num z) truth h = absurd (cc)
   text-spells table (num z) string h = absurd (cc)
   text-spells table (num z) (named k) h = absurd (cc)
-  text-spells table (bool b) whole h = absurd (cc)
+  text-spells table (bool b) integer h = absurd (cc)
   text-spells table (bool true) truth h = a_true [] tt
   text-spells table (bool false) truth h = a_false [] tt
   text-spells table (bool b) string h = absurd (cc)
   text-spells table (bool b) (named k) h = absurd (cc)
-  text-spells table (text bs) whole h = absurd (cc)
+  text-spells table (text bs) integer h = absurd (cc)
   text-spells table (text bs) truth h = absurd (cc)
   text-spells table (text bs) string h = a_text [] bs (escaped bs) tt (escaped-quotes bs)
   text-spells table (text bs) (named k) h = absurd (cc)
-  text-spells table (cons c vs) whole h = absurd (cc)
+  text-spells table (cons c vs) integer h = absurd (cc)
   text-spells table (cons c vs) truth h = absurd (cc)
   text-spells table (cons c vs) string h = absurd (cc)
   text-spells table (cons c no_value) (named k) h =

@@ -1,7 +1,7 @@
 use Rattle.std.proofs.Common.{[], refl, sym, FitsSigned, rules}
 use Rattle.std.specs.Int.{w128}
 use Rattle.std.proofs.lemmas.Int.{to_z-of_z}
-use Rattle.txs_values.specs.Value.{whole}
+use Rattle.txs_values.specs.Value.{integer}
 use Rattle.txs_values.specs.Spelling.{read_text}
 use Rattle.txs_drive.proofs.Spelled.{number_of-none}
 use Rattle.txs_drive.proofs.command.spelled.Goals as goal
@@ -13,4 +13,4 @@ returns-in-Ok c =
     simp to_z-of_z (simp read)
 
 pub returns-in-Err : goal.returns-in-Err
-returns-in-Err c = sym (number_of-none (read_text [] whole c.args.bytes.now) (λ n e. let same = (c.in-Err.ensures.ok [] n).1 e in cc))
+returns-in-Err c = sym (number_of-none (read_text [] integer c.args.bytes.now) (λ n e. let same = (c.in-Err.ensures.ok [] n).1 e in cc))

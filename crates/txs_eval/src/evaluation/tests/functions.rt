@@ -1,5 +1,5 @@
 ghost use Rattle.std.specs.Prelude.{◌≡◌, [], ◌∷◌, pos, slice_get, Some, IfOk};
-ghost use Rattle.txs_values.specs.Value.{num, whole, string};
+ghost use Rattle.txs_values.specs.Value.{num, integer, string};
 ghost use Rattle.txs_terms.specs.Defs.{signatures_of};
 ghost use Rattle.txs_terms.specs.Expr as of;
 ghost use Rattle.txs_terms.specs.View.{definitions_of, expr_of, function_of};
@@ -10,8 +10,8 @@ use super::*;
 fn counting(alloc: Global) -> Result<FunctionDef, NoMemory>
     ensures { IfOk result (λ f. function_of f ≡ record {
       name = f.name;
-      takes = whole ∷ [];
-      gives = whole;
+      takes = integer ∷ [];
+      gives = integer;
       body =
           of.choose (of.equal (of.slot 0) (of.val (num (pos 0)))) (of.val (num (pos 0)))
           (of.apply 0 (of.more (of.two of.minus (of.slot 0) (of.val (num (pos 1)))) of.none));
@@ -33,7 +33,7 @@ fn counting(alloc: Global) -> Result<FunctionDef, NoMemory>
 }
 
 fn recursive(alloc: Global) -> Result<Defs, NoMemory>
-    ensures { IfOk result (λ d. slice_get (signatures_of (definitions_of d)).functions 0 ≡ Some (record { takes = whole ∷ []; gives = whole })) }
+    ensures { IfOk result (λ d. slice_get (signatures_of (definitions_of d)).functions 0 ≡ Some (record { takes = integer ∷ []; gives = integer })) }
 {
     let mut functions = Items::new(alloc);
     let function = counting(alloc)?;
@@ -90,7 +90,7 @@ fn doubled(alloc: Global) -> Result<Expr, NoMemory>
 fn doubling(alloc: Global) -> Result<FunctionDef, NoMemory>
     ensures { IfOk result (λ f. function_of f ≡ record {
       name = f.name;
-      takes = string ∷ whole ∷ [];
+      takes = string ∷ integer ∷ [];
       gives = string;
       body =
           of.choose (of.equal (of.slot 1) (of.val (num (pos 0)))) (of.slot 0)

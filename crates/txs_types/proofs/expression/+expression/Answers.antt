@@ -4,7 +4,7 @@ use Rattle.std.proofs.lemmas.List.{length-map}
 use Rattle.std.specs.Int.{w128}
 use Rattle.std.specs.Prelude.{option_map}
 use Rattle.txs_values.specs.View.{ty_of}
-use Rattle.txs_values.specs.Value.{whole, truth}
+use Rattle.txs_values.specs.Value.{integer, truth}
 use Rattle.txs_terms.specs.View.{exprs_of}
 use Rattle.txs_syntax.specs.declared.ast.Ast.TheVariants as tree
 use Rattle.txs_types.specs.declared.fault.TypeFault.TheVariants as fault
@@ -158,8 +158,8 @@ negation-returns-clause-judged t c = λ place.
     let s = scope_of c.args.scope.now in
     let w = want_of c.args.want in
     negate_node c.args.at place s w c.args.operand.now c.expression-found.result c.negated.result c.whole.result
-    (subst (λ a. Judges s (Some whole) a c.expression-found.result) c.get.ensures c.expression-found.ensures.judged) c.negated.ensures
-    (subst (λ s. Whole (scope_of s) w c.args.at whole c.negated.result c.whole.result) c.expression-found.ensures.kept c.whole.ensures)
+    (subst (λ a. Judges s (Some integer) a c.expression-found.result) c.get.ensures c.expression-found.ensures.judged) c.negated.ensures
+    (subst (λ s. Whole (scope_of s) w c.args.at integer c.negated.result c.whole.result) c.expression-found.ensures.kept c.whole.ensures)
 
 pub both-returns-clause-told : goal.both-returns-clause-told
 both-returns-clause-told t c =
