@@ -2,7 +2,7 @@
 use Rattle.std.proofs.Common.{◌≡◌, ℕ, suc, ◌+◌, ◌≤◌, Bool, true, false, ◌&&◌, cond, eqb, eqb-true, List, [], ◌∷◌, ◌++◌, length, Option, Some, None, refl, sym, ◌∙◌, ap, arith}
 use Rattle.txs_lexer.specs.Tokens.{IsFirstEnd, HasNoEnd}
 use Rattle.txs_lexer.specs.Scan.{before_end, more_by, begins_with}
-use Rattle.txs_lexer.proofs.Tests.{and-both, yes, no}
+use Rattle.txs_values.proofs.Tests.{and-both, yes, no}
 
 -- an end stands so far in at most
 pub record EndsWithin (bs : List ℕ) (n : ℕ) : Type 0 where

@@ -6,7 +6,7 @@ use Rattle.std.specs.Str.Parse.{digits_value}
 use Rattle.txs_values.specs.Spelling.{is_digit, is_letter, is_name_byte, escape_of, run_of}
 use Rattle.txs_lexer.specs.declared.fault.LexFault.{LexFault}
 use Rattle.txs_lexer.specs.declared.fault.LexFault.TheVariants.{BadChar, OpenText, Number as TooLarge}
-use Rattle.txs_lexer.specs.declared.front.Front.TheVariants.{Gap, Piece}
+use Rattle.txs_lexer.specs.declared.front.Front.TheVariants.{Gap, Lexeme}
 use Rattle.txs_lexer.specs.declared.token.Kind.{Kind}
 use Rattle.txs_lexer.specs.declared.token.Kind.TheVariants.{Name, Word, Number, Quoted, Symbol}
 use Rattle.txs_lexer.specs.Words.{words, symbols}
@@ -18,7 +18,7 @@ use Rattle.txs_lexer.proofs.Places.{place-is, no-place, words-distinct, all-at}
 use Rattle.txs_lexer.proofs.Runs.{run-is}
 use Rattle.txs_lexer.proofs.Sound.{quoted-at, broken-open}
 use Rattle.txs_lexer.proofs.Symbols.{number-is, longest-none, begins-none, symbol-begins, begins_symbol, symbol-len}
-use Rattle.txs_lexer.proofs.Tests.{and-both, lt-true, lt-false, not-false, if-not, yes, no}
+use Rattle.txs_values.proofs.Tests.{and-both, lt-true, lt-false, not-true, if-not, yes, no}
 use Rattle.txs_lexer.proofs.Texts.{Behind, closed, broken, quotes-inside, inside-append, quotes-meaning, wrong-meaning}
 
 -- ---- bytes
@@ -49,7 +49,7 @@ number-front at [] rest n ends = absurd n
 number-front at (b ∷ bs) rest n ends =
     front-digit at b (bs ++ rest) (digit-no_blank b n.0) (digit-no_letter b n.0) n.0 ∙ ap (numbered at) (run-is is_digit (b ∷ bs) rest n ends)
 
-numbered-small : (at : ℕ) (digits : List ℕ) → digits_value 10 digits < 2 ^ 127 → numbered at digits ≡ Ok (Piece (Number (pos (digits_value 10 digits))) (length digits))
+numbered-small : (at : ℕ) (digits : List ℕ) → digits_value 10 digits < 2 ^ 127 → numbered at digits ≡ Ok (Lexeme (Number (pos (digits_value 10 digits))) (length digits))
 unfolding numbered
 numbered-small at digits h = ap (numbered_by at (length digits)) (yes (nat_lt (digits_value 10 digits) (2 ^ 127)) (Some (pos (digits_value 10 digits))) None (lt-true (digits_value 10 digits) (2 ^ 127) h))
 
@@ -84,12 +84,12 @@ word-name k s h = name-is s (all-at is_name words k s refl h)
 quoted-front : (at : ℕ) (ws tail : List ℕ) → IsInside ws → Behind tail → front_of at (34 ∷ (ws ++ tail)) ≡ cond (begins_with 34 tail) (meant at (length ws) (meaning ws)) (Err (OpenText at))
 quoted-front at ws tail i b = front-quote at (ws ++ tail) ∙ quoted-at at ws tail i b
 
-text-front : (at : ℕ) (text ws rest : List ℕ) → Quotes text ws → front_of at ((34 ∷ (ws ++ (34 ∷ []))) ++ rest) ≡ Ok (Piece (Quoted text) (length (34 ∷ (ws ++ (34 ∷ [])))))
+text-front : (at : ℕ) (text ws rest : List ℕ) → Quotes text ws → front_of at ((34 ∷ (ws ++ (34 ∷ []))) ++ rest) ≡ Ok (Lexeme (Quoted text) (length (34 ∷ (ws ++ (34 ∷ [])))))
 text-front at text ws rest q =
     ap (λ (p : List ℕ). front_of at (34 ∷ p)) (append_assoc ws (34 ∷ []) rest)
     ∙ (quoted-front at ws (34 ∷ rest) (quotes-inside q) (closed rest)
     ∙ (ap (meant at (length ws)) (quotes-meaning q)
-    ∙ ap (λ (n : ℕ). Ok (Piece (Quoted text) n)) (omega (arith, length-append ws (34 ∷ [])))))
+    ∙ ap (λ (n : ℕ). Ok (Lexeme (Quoted text) n)) (omega (arith, length-append ws (34 ∷ [])))))
 
 open-front : (at : ℕ) (inside rest : List ℕ) → IsInside inside → IsBroken rest → front_of at (34 ∷ (inside ++ rest)) ≡ Err (OpenText at)
 open-front at inside rest i b = quoted-front at inside rest i (broken rest b) ∙ no (begins_with 34 rest) (meant at (length inside) (meaning inside)) (Err (OpenText at)) (broken-open b)
@@ -142,11 +142,11 @@ sign-symbol at [] h = refl
 sign-symbol at (b ∷ []) h = refl
 sign-symbol at (b ∷ c ∷ bs) h = no (eqb b 45 && eqb c 45) _ _ (no-line b c bs h) ∙ no (eqb b 123 && eqb c 45) _ _ (no-block b c bs h)
 
-by-three : (at : ℕ) (text : List ℕ) (k : ℕ) → symbol_number 3 text ≡ Some k → symbol_of at text ≡ Ok (Piece (Symbol k) 3)
+by-three : (at : ℕ) (text : List ℕ) (k : ℕ) → symbol_number 3 text ≡ Some k → symbol_of at text ≡ Ok (Lexeme (Symbol k) 3)
 unfolding symbol_of
 by-three at text k e = ap (λ (o : Option ℕ). symbol_by o 3 (symbol_by (symbol_number 2 text) 2 (symbol_by (symbol_number 1 text) 1 (Err (BadChar at))))) e
 
-by-two : (at : ℕ) (text : List ℕ) (k : ℕ) → symbol_number 3 text ≡ None → symbol_number 2 text ≡ Some k → symbol_of at text ≡ Ok (Piece (Symbol k) 2)
+by-two : (at : ℕ) (text : List ℕ) (k : ℕ) → symbol_number 3 text ≡ None → symbol_number 2 text ≡ Some k → symbol_of at text ≡ Ok (Lexeme (Symbol k) 2)
 unfolding symbol_of
 by-two at text k n e = ap (λ (o : Option ℕ). symbol_by o 3 (symbol_by (symbol_number 2 text) 2 (symbol_by (symbol_number 1 text) 1 (Err (BadChar at))))) n ∙ ap (λ (o : Option ℕ). symbol_by o 2 (symbol_by (symbol_number 1 text) 1 (Err (BadChar at)))) e
 
@@ -154,13 +154,13 @@ by-one : (at : ℕ) (text : List ℕ) (o : Option ℕ) → symbol_number 3 text 
 unfolding symbol_of
 by-one at text k n m e = ap (λ (o : Option ℕ). symbol_by o 3 (symbol_by (symbol_number 2 text) 2 (symbol_by (symbol_number 1 text) 1 (Err (BadChar at))))) n ∙ (ap (λ (o : Option ℕ). symbol_by o 2 (symbol_by (symbol_number 1 text) 1 (Err (BadChar at)))) m ∙ ap (λ (o : Option ℕ). symbol_by o 1 (Err (BadChar at))) e)
 
-symbol-of : (at k n : ℕ) (s rest : List ℕ) → slice_get symbols k ≡ Some s → IsLongestSymbol s rest → length s ≡ n → (n ≡ 1) ⊎ ((n ≡ 2) ⊎ (n ≡ 3)) → symbol_of at (s ++ rest) ≡ Ok (Piece (Symbol k) n)
+symbol-of : (at k n : ℕ) (s rest : List ℕ) → slice_get symbols k ≡ Some s → IsLongestSymbol s rest → length s ≡ n → (n ≡ 1) ⊎ ((n ≡ 2) ⊎ (n ≡ 3)) → symbol_of at (s ++ rest) ≡ Ok (Lexeme (Symbol k) n)
 symbol-of at k n s rest h longest l (inl e) =
-    by-one at (s ++ rest) (Some k) (longest-none s rest 3 longest (omega arith)) (longest-none s rest 2 longest (omega arith)) (number-is k s rest 1 h (l ∙ e)) ∙ ap (λ (m : ℕ). Ok (Piece (Symbol k) m)) (sym e)
+    by-one at (s ++ rest) (Some k) (longest-none s rest 3 longest (omega arith)) (longest-none s rest 2 longest (omega arith)) (number-is k s rest 1 h (l ∙ e)) ∙ ap (λ (m : ℕ). Ok (Lexeme (Symbol k) m)) (sym e)
 symbol-of at k n s rest h longest l (inr (inl e)) =
-    by-two at (s ++ rest) k (longest-none s rest 3 longest (omega arith)) (number-is k s rest 2 h (l ∙ e)) ∙ ap (λ (m : ℕ). Ok (Piece (Symbol k) m)) (sym e)
+    by-two at (s ++ rest) k (longest-none s rest 3 longest (omega arith)) (number-is k s rest 2 h (l ∙ e)) ∙ ap (λ (m : ℕ). Ok (Lexeme (Symbol k) m)) (sym e)
 symbol-of at k n s rest h longest l (inr (inr e)) =
-    by-three at (s ++ rest) k (number-is k s rest 3 h (l ∙ e)) ∙ ap (λ (m : ℕ). Ok (Piece (Symbol k) m)) (sym e)
+    by-three at (s ++ rest) k (number-is k s rest 3 h (l ∙ e)) ∙ ap (λ (m : ℕ). Ok (Lexeme (Symbol k) m)) (sym e)
 
 to-three : (n : ℕ) → 1 ≤ n → n ≤ 3 → (n ≡ 1) ⊎ ((n ≡ 2) ⊎ (n ≡ 3))
 to-three n l h = grind arith
@@ -171,22 +171,22 @@ begins-sign at (b ∷ bs) rest h =
     let x = and-both (not (is_blank b)) (not (is_letter b) && (not (is_digit b) && not (eqb b 34))) h in
     let y = and-both (not (is_letter b)) (not (is_digit b) && not (eqb b 34)) x.1 in
     let z = and-both (not (is_digit b)) (not (eqb b 34)) y.1 in
-    front-sign at b (bs ++ rest) (not-false (is_blank b) x.0) (not-false (is_letter b) y.0) (not-false (is_digit b) z.0) (not-false (eqb b 34) z.1)
+    front-sign at b (bs ++ rest) (not-true (is_blank b) x.0) (not-true (is_letter b) y.0) (not-true (is_digit b) z.0) (not-true (eqb b 34) z.1)
 
-symbol-front : (at k : ℕ) (s rest : List ℕ) → slice_get symbols k ≡ Some s → BeginsNoComment (s ++ rest) → IsLongestSymbol s rest → front_of at (s ++ rest) ≡ Ok (Piece (Symbol k) (length s))
+symbol-front : (at k : ℕ) (s rest : List ℕ) → slice_get symbols k ≡ Some s → BeginsNoComment (s ++ rest) → IsLongestSymbol s rest → front_of at (s ++ rest) ≡ Ok (Lexeme (Symbol k) (length s))
 symbol-front at k s rest h c longest =
     let l = symbol-len k s h in
     begins-sign at s rest (symbol-begins k s h) ∙ (sign-symbol at (s ++ rest) c ∙ symbol-of at k (length s) s rest h longest refl (to-three (length s) l.0 l.1))
 
 -- ---- tokens
 
-pub token-front : (at : ℕ) (kind : Kind) (slice rest : List ℕ) → IsToken kind slice → IsLongest kind slice rest → front_of at (slice ++ rest) ≡ Ok (Piece kind (length slice))
+pub token-front : (at : ℕ) (kind : Kind) (slice rest : List ℕ) → IsToken kind slice → IsLongest kind slice rest → front_of at (slice ++ rest) ≡ Ok (Lexeme kind (length slice))
 token-front at (Name name) slice rest t l =
-    name-front at slice rest None t.1 l (no-place words slice (word_number slice) refl t.2) ∙ ap (λ (q : List ℕ). Ok (Piece (Name q) (length slice))) (sym t.0)
+    name-front at slice rest None t.1 l (no-place words slice (word_number slice) refl t.2) ∙ ap (λ (q : List ℕ). Ok (Lexeme (Name q) (length slice))) (sym t.0)
 token-front at (Word k) slice rest t l = name-front at slice rest (Some k) (word-name k slice t) l (place-is words slice k words-distinct t)
-token-front at (Number n) slice rest t l = number-front at slice rest t.1 l ∙ (numbered-small at slice t.2 ∙ ap (λ (q : ℤ). Ok (Piece (Number q) (length slice))) (sym t.0))
+token-front at (Number n) slice rest t l = number-front at slice rest t.1 l ∙ (numbered-small at slice t.2 ∙ ap (λ (q : ℤ). Ok (Lexeme (Number q) (length slice))) (sym t.0))
 token-front at (Quoted text) slice rest t l =
-    let P : List ℕ → Type 0 = λ q. front_of at (q ++ rest) ≡ Ok (Piece (Quoted text) (length q)) in
+    let P : List ℕ → Type 0 = λ q. front_of at (q ++ rest) ≡ Ok (Lexeme (Quoted text) (length q)) in
     subst P (sym t.1) (text-front at text t.0 rest t.2)
 token-front at (Symbol k) slice rest t l = symbol-front at k slice rest t l.0 l.1
 

@@ -8,8 +8,9 @@ use Rattle.txs_lexer.specs.declared.front.Front.{Front}
 use Rattle.txs_lexer.specs.declared.front.Front.TheVariants.{Gap}
 use Rattle.txs_lexer.specs.Tokens.{is_blank, AreAll, IsName, IsNumeral}
 use Rattle.txs_lexer.specs.Scan.{Gives, Stops, front_of, named_by, word_number, numbered, quoted, sign_of}
-use Rattle.txs_lexer.proofs.Runs.{run-all, take-run}
-use Rattle.txs_lexer.proofs.Tests.{yes, no}
+use Rattle.txs_values.proofs.Runs.{take-run}
+use Rattle.txs_lexer.proofs.Runs.{run-all}
+use Rattle.txs_values.proofs.Tests.{yes, no}
 
 -- ---- the parts, by tests of the first byte
 

@@ -1,6 +1,5 @@
 pub mod Runs
 pub mod Steps
-pub mod Tests
 pub mod Numerals
 pub mod Places
 pub mod Utf8

@@ -4,7 +4,7 @@ use Rattle.std.proofs.lemmas.Iterator.Adapters.{position_from-zero}
 use Rattle.std.specs.List.{position, position_from, list_all, slice_get}
 use Rattle.txs_lexer.specs.Words.{words, symbols}
 use Rattle.txs_lexer.specs.Scan.{place_of}
-use Rattle.txs_lexer.proofs.Tests.{eq-bytes, bytes-eq, and-both, not-false}
+use Rattle.txs_values.proofs.Tests.{eq-bytes, bytes-eq, and-both, not-true}
 
 pub place-from : (texts : List (List ℕ)) (x : List ℕ) → position (λ text. bytes_eq text x) texts ≡ place_of texts x
 unfolding place_of
@@ -47,7 +47,7 @@ symbols-distinct = refl
 
 others-differ : (x : List ℕ) (xs : List (List ℕ)) (k : ℕ) (y : List ℕ) → list_all (λ y. not (bytes_eq x y)) xs ≡ true → slice_get xs k ≡ Some y → bytes_eq x y ≡ false
 others-differ x [] k y d h = absurd (cc)
-others-differ x (z ∷ zs) zero y d h = let same : z ≡ y = cc in subst (λ (q : List ℕ). bytes_eq x q ≡ false) same (not-false (bytes_eq x z) (and-both (not (bytes_eq x z)) (list_all (λ y. not (bytes_eq x y)) zs) d).0)
+others-differ x (z ∷ zs) zero y d h = let same : z ≡ y = cc in subst (λ (q : List ℕ). bytes_eq x q ≡ false) same (not-true (bytes_eq x z) (and-both (not (bytes_eq x z)) (list_all (λ y. not (bytes_eq x y)) zs) d).0)
 others-differ x (z ∷ zs) (suc k) y d h = others-differ x zs k y (and-both (not (bytes_eq x z)) (list_all (λ y. not (bytes_eq x y)) zs) d).1 h
 
 from-place : (texts : List (List ℕ)) (x : List ℕ) (i k : ℕ) → distinct texts ≡ true → slice_get texts k ≡ Some x → position_from (λ text. bytes_eq text x) i texts ≡ Some (i + k)

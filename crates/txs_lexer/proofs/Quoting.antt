@@ -5,7 +5,7 @@ use Rattle.std.specs.Str.{IsUtf8}
 use Rattle.txs_lexer.specs.declared.fault.LexFault.TheVariants.{OpenText}
 use Rattle.txs_lexer.specs.Tokens.{Quotes, IsInside}
 use Rattle.txs_lexer.specs.Scan.{IsTail, inside_len, meaning, meant, begins_with, quoted}
-use Rattle.txs_lexer.proofs.Tests.{yes, no}
+use Rattle.txs_values.proofs.Tests.{yes, no}
 use Rattle.txs_lexer.proofs.Texts.{inside-cut, inside-meant, Meant}
 use Rattle.txs_lexer.proofs.Utf8.{cut-before, cut-behind, quotes-utf8}
 

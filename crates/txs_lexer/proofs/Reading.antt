@@ -6,7 +6,7 @@ use Rattle.std.specs.Str.{IsUtf8}
 use Rattle.txs_lexer.specs.declared.fault.LexFault.{LexFault}
 use Rattle.txs_lexer.specs.declared.fault.LexFault.TheVariants.{NoMemory, TooLong, NotUtf8, BadChar, OpenText, OpenComment, Number as TooLarge}
 use Rattle.txs_lexer.specs.declared.front.Front.{Front}
-use Rattle.txs_lexer.specs.declared.front.Front.TheVariants.{Gap, Piece}
+use Rattle.txs_lexer.specs.declared.front.Front.TheVariants.{Gap, Lexeme}
 use Rattle.txs_lexer.specs.declared.token.Token.{Token}
 use Rattle.txs_lexer.specs.declared.token.Kind.{Kind}
 use Rattle.txs_lexer.specs.Lexed.{Answer, with_token, Lexed, nothing_left, over_gap, over_token, at_fault}
@@ -46,9 +46,9 @@ behind-token tokens t (Ok more) = ap Ok (sym (append_assoc tokens (t ∷ []) mor
 behind-token tokens t (Err fault) = refl
 
 -- a token goes to their end
-pub token-steps : (at : ℕ) (text : List ℕ) (old new : List Token) (kind : Kind) (n : ℕ) → 0 < length text → front_of at text ≡ Ok (Piece kind n) → new ≡ old ++ record { kind = kind; from = at; to = at + n } ∷ [] → Steps at text old new n
+pub token-steps : (at : ℕ) (text : List ℕ) (old new : List Token) (kind : Kind) (n : ℕ) → 0 < length text → front_of at text ≡ Ok (Lexeme kind n) → new ≡ old ++ record { kind = kind; from = at; to = at + n } ∷ [] → Steps at text old new n
 token-steps at text old new kind n s e h =
-    let f : TokenFront text kind n = fits-here at text (Ok (Piece kind n)) s e in
+    let f : TokenFront text kind n = fits-here at text (Ok (Lexeme kind n)) s e in
     let some = token-some kind f.slice f.is in
     let len : length text ≡ length f.slice + length f.rest = ap length f.parts ∙ length-append f.slice f.rest in
     let past = past-parts text f.slice f.rest n f.parts f.len in
@@ -63,9 +63,9 @@ token-steps at text old new kind n s e h =
           (with_token (record { kind = kind; from = at; to = at + n }) answer, here, behind-token old (record { kind = kind; from = at; to = at + n }) answer ∙ ap (λ (q : List Token). behind q answer) (sym h));
     }
 
-pub token-within : (at : ℕ) (text : List ℕ) (kind : Kind) (n : ℕ) → 0 < length text → front_of at text ≡ Ok (Piece kind n) → n ≤ length text
+pub token-within : (at : ℕ) (text : List ℕ) (kind : Kind) (n : ℕ) → 0 < length text → front_of at text ≡ Ok (Lexeme kind n) → n ≤ length text
 token-within at text kind n s e =
-    let f : TokenFront text kind n = fits-here at text (Ok (Piece kind n)) s e in
+    let f : TokenFront text kind n = fits-here at text (Ok (Lexeme kind n)) s e in
     let len : length text ≡ length f.slice + length f.rest = ap length f.parts ∙ length-append f.slice f.rest in
     omega (arith, f.len)
 

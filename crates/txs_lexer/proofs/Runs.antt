@@ -1,29 +1,7 @@
--- The longest run at the front of a text.
-use Rattle.std.proofs.Common.{◌≡◌, ℕ, ◌≤◌, Bool, true, false, cond, List, [], ◌∷◌, ◌++◌, length, take, refl, ap, arith}
+-- What passes in the longest run at the front of a text, and what ends it.
+use Rattle.std.proofs.Common.{◌≡◌, ℕ, Bool, true, false, cond, List, [], ◌∷◌, ◌++◌, refl, ap}
 use Rattle.txs_values.specs.Spelling.{run_of, past_run}
 use Rattle.txs_lexer.specs.Tokens.{AreAll, EndsRun}
-
-pub run-length : (p : ℕ → Bool) (bs : List ℕ) → length (run_of p bs) ≤ length bs
-run-length p [] = omega arith
-run-length p (b ∷ bs) = elim (p b) as (λ t. length (cond t (b ∷ run_of p bs) []) ≤ length (b ∷ bs)) [
-  | true ↦ let h = run-length p bs in omega (arith, h)
-  | false ↦ omega arith
-]
-
-pub take-run : (p : ℕ → Bool) (bs : List ℕ) → take (length (run_of p bs)) bs ≡ run_of p bs
-take-run p [] = refl
-take-run p (b ∷ bs) = elim (p b) as (λ t. take (length (cond t (b ∷ run_of p bs) [])) (b ∷ bs) ≡ cond t (b ∷ run_of p bs) []) [
-  | true ↦ ap (λ (q : List ℕ). b ∷ q) (take-run p bs)
-  | false ↦ refl
-]
-
--- a text is its run and what follows it
-pub run-parts : (p : ℕ → Bool) (bs : List ℕ) → bs ≡ run_of p bs ++ past_run p bs
-run-parts p [] = refl
-run-parts p (b ∷ bs) = elim (p b) as (λ t. b ∷ bs ≡ cond t (b ∷ run_of p bs) [] ++ cond t (past_run p bs) (b ∷ bs)) [
-  | true ↦ ap (λ (q : List ℕ). b ∷ q) (run-parts p bs)
-  | false ↦ refl
-]
 
 run-all-at : (p : ℕ → Bool) (b : ℕ) (run : List ℕ) (t : Bool) → p b ≡ t → AreAll p run → AreAll p (cond t (b ∷ run) [])
 run-all-at p b run true e h = (e, h)

@@ -8,7 +8,7 @@ use Rattle.txs_values.specs.Spelling.{is_digit, is_letter, is_name_byte, run_of,
 use Rattle.txs_lexer.specs.declared.fault.LexFault.{LexFault}
 use Rattle.txs_lexer.specs.declared.fault.LexFault.TheVariants.{BadChar, OpenText, Number as TooLarge}
 use Rattle.txs_lexer.specs.declared.front.Front.{Front}
-use Rattle.txs_lexer.specs.declared.front.Front.TheVariants.{Gap, Piece}
+use Rattle.txs_lexer.specs.declared.front.Front.TheVariants.{Gap, Lexeme}
 use Rattle.txs_lexer.specs.declared.token.Kind.{Kind}
 use Rattle.txs_lexer.specs.declared.token.Kind.TheVariants.{Symbol}
 use Rattle.txs_lexer.specs.Words.{words, symbols}
@@ -17,9 +17,10 @@ use Rattle.txs_lexer.specs.Scan.{word_number, named_by, numbered_by, numbered, i
 use Rattle.txs_lexer.proofs.Comments.{end-found, found-first, none-found}
 use Rattle.txs_lexer.proofs.Fronts.{run-name, run-numeral}
 use Rattle.txs_lexer.proofs.Places.{place-found, place-none, words-distinct}
-use Rattle.txs_lexer.proofs.Runs.{run-parts, run-all, run-ends}
+use Rattle.txs_values.proofs.Runs.{run-parts}
+use Rattle.txs_lexer.proofs.Runs.{run-all, run-ends}
 use Rattle.txs_lexer.proofs.Symbols.{IsSymbolAt, number-found, number-none, symbol-len, taken-len}
-use Rattle.txs_lexer.proofs.Tests.{and-both, both-and, true-lt, false-lt, no}
+use Rattle.txs_values.proofs.Tests.{and-both, both-and, true-lt, false-lt, no}
 use Rattle.txs_lexer.proofs.Texts.{inside-cut, inside-is, Behind, closed, broken, Meant, inside-meant}
 use Rattle.txs_lexer.proofs.Utf8.{take-seam}
 
@@ -42,7 +43,7 @@ pub record TokenFront (text : List ℕ) (kind : Kind) (n : ℕ) : Type 0 where
 
 abbrev pub Fits : ℕ → List ℕ → Result Front LexFault → Type 0
 Fits at text (Ok (Gap n)) = GapFront text n
-Fits at text (Ok (Piece kind n)) = TokenFront text kind n
+Fits at text (Ok (Lexeme kind n)) = TokenFront text kind n
 Fits at text (Err fault) = Fails at text fault
 
 pub fits-cond : (at : ℕ) (text : List ℕ) (t : Bool) (x y : Result Front LexFault) → (t ≡ true → Fits at text x) → (t ≡ false → Fits at text y) → Fits at text (cond t x y)
@@ -149,7 +150,7 @@ abbrev pub HasNone : ℕ → List ℕ → Type 0
 HasNone n text = (k : ℕ) (s rest : List ℕ) → slice_get symbols k ≡ Some s → text ≡ s ++ rest → length s ≢ n
 
 found-fits : (at : ℕ) (text : List ℕ) (n k : ℕ) → BeginsNoComment text → IsSymbolAt n text k
-    → ((j : ℕ) (s rest : List ℕ) → slice_get symbols j ≡ Some s → text ≡ s ++ rest → length s ≤ n) → Fits at text (Ok (Piece (Symbol k) n))
+    → ((j : ℕ) (s rest : List ℕ) → slice_get symbols j ≡ Some s → text ≡ s ++ rest → length s ≤ n) → Fits at text (Ok (Lexeme (Symbol k) n))
 found-fits at text n k c a longest =
     let parts : take n text ++ drop n text ≡ text = take-append-drop n text in
     let len : length (take n text) ≡ n = taken-len n text a.within in

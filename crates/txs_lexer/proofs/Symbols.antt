@@ -7,7 +7,7 @@ use Rattle.txs_lexer.specs.Words.{symbols}
 use Rattle.txs_lexer.specs.Tokens.{is_blank, IsLongestSymbol}
 use Rattle.txs_lexer.specs.Scan.{place_of, symbol_number}
 use Rattle.txs_lexer.proofs.Places.{place-found, place-is, symbols-distinct, symbol-short, all-at}
-use Rattle.txs_lexer.proofs.Tests.{and-both, true-le, le-true, yes}
+use Rattle.txs_values.proofs.Tests.{and-both, true-le, le-true, yes}
 use Rattle.txs_lexer.proofs.Utf8.{take-seam}
 
 pub symbol-len : (k : ℕ) (s : List ℕ) → slice_get symbols k ≡ Some s → (1 ≤ length s) × (length s ≤ 3)

@@ -5,7 +5,7 @@ use Rattle.txs_values.specs.Spelling.{escape_of}
 use Rattle.txs_lexer.specs.Tokens.{is_plain, Quotes, nothing, as_it_is, escaped_by, IsInside, empty, plain, escape, IsBroken, at_end, at_line_feed, behind_backslash, backslash_and_line_feed}
 use Rattle.txs_lexer.specs.Scan.{inside_len, with_byte, farther, with_escape, meaning}
 use Rattle.txs_lexer.proofs.Steps.{inside-plain, inside-escape, meaning-plain}
-use Rattle.txs_lexer.proofs.Tests.{and-both, not-false}
+use Rattle.txs_values.proofs.Tests.{and-both, not-true}
 
 -- ---- bytes
 
@@ -48,7 +48,7 @@ cut-last b true e = record { inside = plain b [] e empty; behind = broken [] at_
 cut-last b false e = cut-here (b ∷ []) (last-behind b (not-plain b e))
 
 escape-test : (b c : ℕ) → (eqb b 92 && not (eqb c 10)) ≡ true → (b ≡ 92) × (eqb c 10 ≡ false)
-escape-test b c h = let both = and-both (eqb b 92) (not (eqb c 10)) h in (eqb-true b 92 both.0, not-false (eqb c 10) both.1)
+escape-test b c h = let both = and-both (eqb b 92) (not (eqb c 10)) h in (eqb-true b 92 both.0, not-true (eqb c 10) both.1)
 
 feed-test : (b c : ℕ) → b ≡ 92 → (eqb b 92 && not (eqb c 10)) ≡ false → c ≡ 10
 feed-test b c e h = grind (arith, nat_tests)

@@ -6,11 +6,11 @@ use Rattle.std.specs.Str.{IsUtf8, is_utf8, IsValidUpTo}
 use Rattle.txs_lexer.specs.declared.fault.LexFault.{LexFault}
 use Rattle.txs_lexer.specs.declared.fault.LexFault.TheVariants.{TooLong, NotUtf8}
 use Rattle.txs_lexer.specs.declared.front.Front.{Front}
-use Rattle.txs_lexer.specs.declared.front.Front.TheVariants.{Gap, Piece}
+use Rattle.txs_lexer.specs.declared.front.Front.TheVariants.{Gap, Lexeme}
 use Rattle.txs_lexer.specs.Lexed.{Answer, with_token, Lexed, nothing_left, over_gap, over_token, at_fault, IsLexed, too_long, not_utf8, read, text_limit}
 use Rattle.txs_lexer.specs.Scan.{front_of}
 use Rattle.txs_lexer.proofs.Sound.{Fits, front-fits}
-use Rattle.txs_lexer.proofs.Tests.{true-le}
+use Rattle.txs_values.proofs.Tests.{true-le}
 use Rattle.txs_lexer.proofs.Whole.{gap-some, token-some}
 
 -- ---- tokens or a fault
@@ -24,7 +24,7 @@ has-front at text n (Ok (Gap k)) l f later =
     let len : length text ≡ length f.gap + length f.rest = ap length f.parts ∙ length-append f.gap f.rest in
     let rest = later (at + length f.gap) f.rest (omega arith) in
     (rest.0, subst (λ (q : List ℕ). Lexed at q rest.0) (sym f.parts) (over_gap at f.gap f.rest rest.0 f.is rest.1))
-has-front at text n (Ok (Piece kind k)) l f later =
+has-front at text n (Ok (Lexeme kind k)) l f later =
     let some = token-some kind f.slice f.is in
     let len : length text ≡ length f.slice + length f.rest = ap length f.parts ∙ length-append f.slice f.rest in
     let rest = later (at + length f.slice) f.rest (omega arith) in

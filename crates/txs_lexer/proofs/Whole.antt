@@ -7,7 +7,7 @@ use Rattle.std.specs.Str.{IsUtf8, IsValidUpTo}
 use Rattle.txs_lexer.specs.declared.fault.LexFault.{LexFault}
 use Rattle.txs_lexer.specs.declared.fault.LexFault.TheVariants.{NoMemory, TooLong, NotUtf8, BadChar, OpenText, OpenComment, Number as TooLarge}
 use Rattle.txs_lexer.specs.declared.front.Front.{Front}
-use Rattle.txs_lexer.specs.declared.front.Front.TheVariants.{Gap, Piece}
+use Rattle.txs_lexer.specs.declared.front.Front.TheVariants.{Gap, Lexeme}
 use Rattle.txs_lexer.specs.declared.token.Token.{Token}
 use Rattle.txs_lexer.specs.declared.token.Kind.{Kind}
 use Rattle.txs_lexer.specs.declared.token.Kind.TheVariants.{Name, Word, Number, Quoted, Symbol}
@@ -44,7 +44,7 @@ token-some (Symbol k) slice t = let l = symbol-len k slice t in omega (arith, l.
 
 abbrev pub goes_on : ℕ → List ℕ → (ℕ → List ℕ → Answer) → Result Front LexFault → Answer
 goes_on at text later (Ok (Gap k)) = later (at + k) (drop k text)
-goes_on at text later (Ok (Piece kind k)) = with_token (record { kind = kind; from = at; to = at + k }) (later (at + k) (drop k text))
+goes_on at text later (Ok (Lexeme kind k)) = with_token (record { kind = kind; from = at; to = at + k }) (later (at + k) (drop k text))
 goes_on at text later (Err fault) = Err fault
 
 abbrev pub answer_of : ℕ → ℕ → List ℕ → Answer
@@ -61,7 +61,7 @@ answer-gap n at [] rest s e = absurd (omega arith)
 answer-gap n at (b ∷ bs) rest s e =
     ap (goes_on at (b ∷ (bs ++ rest)) (λ m more. answer_of n m more)) e ∙ ap (λ (q : List ℕ). answer_of n (at + length (b ∷ bs)) q) (drop-append_seam (b ∷ bs) rest)
 
-answer-token : (n at : ℕ) (kind : Kind) (slice rest : List ℕ) → 0 < length slice → front_of at (slice ++ rest) ≡ Ok (Piece kind (length slice))
+answer-token : (n at : ℕ) (kind : Kind) (slice rest : List ℕ) → 0 < length slice → front_of at (slice ++ rest) ≡ Ok (Lexeme kind (length slice))
     → answer_of (suc n) at (slice ++ rest) ≡ with_token (record { kind = kind; from = at; to = at + length slice }) (answer_of n (at + length slice) rest)
 answer-token n at kind [] rest s e = absurd (omega arith)
 answer-token n at kind (b ∷ bs) rest s e =

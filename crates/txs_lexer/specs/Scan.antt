@@ -9,7 +9,7 @@ use Rattle.txs_lexer.specs.Words.{words, symbols}
 use Rattle.txs_lexer.specs.declared.fault.LexFault.{LexFault}
 use Rattle.txs_lexer.specs.declared.fault.LexFault.TheVariants.{NoMemory, TooLong, NotUtf8, BadChar, OpenText, OpenComment, Number as TooLarge}
 use Rattle.txs_lexer.specs.declared.front.Front.{Front}
-use Rattle.txs_lexer.specs.declared.front.Front.TheVariants.{Gap, Piece}
+use Rattle.txs_lexer.specs.declared.front.Front.TheVariants.{Gap, Lexeme}
 use Rattle.txs_lexer.specs.declared.token.Token.{Token}
 use Rattle.txs_lexer.specs.declared.token.Kind.TheVariants.{Name, Word, Number, Quoted, Symbol}
 
@@ -38,8 +38,8 @@ abbrev pub word_number : List ℕ → Option ℕ
 word_number name = place_of words name
 
 abbrev pub named_by : Option ℕ → List ℕ → Front
-named_by None name = Piece (Name name) (length name)
-named_by (Some k) name = Piece (Word k) (length name)
+named_by None name = Lexeme (Name name) (length name)
+named_by (Some k) name = Lexeme (Word k) (length name)
 
 -- ---- numbers
 
@@ -49,7 +49,7 @@ number_of digits = cond (nat_lt (digits_value 10 digits) (2 ^ 127)) (Some (pos (
 
 abbrev pub numbered_by : ℕ → ℕ → Option ℤ → Result Front LexFault
 numbered_by at len None = Err (TooLarge at)
-numbered_by at len (Some n) = Ok (Piece (Number n) len)
+numbered_by at len (Some n) = Ok (Lexeme (Number n) len)
 
 unfoldable pub numbered : ℕ → List ℕ → Result Front LexFault
 numbered at digits = numbered_by at (length digits) (number_of digits)
@@ -92,7 +92,7 @@ meaning (b ∷ []) = cond (eqb b 92) (Err 0) (Ok (b ∷ []))
 meaning (b ∷ c ∷ bs) = cond (eqb b 92) (with_escape (escape_of c) (meaning bs)) (with_byte b (farther 1 (meaning (c ∷ bs))))
 
 abbrev pub meant : ℕ → ℕ → Result (List ℕ) ℕ → Result Front LexFault
-meant at len (Ok text) = Ok (Piece (Quoted text) (len + 2))
+meant at len (Ok text) = Ok (Lexeme (Quoted text) (len + 2))
 meant at len (Err k) = Err (BadChar (at + 1 + k))
 
 abbrev pub begins_with : ℕ → List ℕ → Bool
@@ -128,7 +128,7 @@ symbol_number n text = cond (nat_le n (length text)) (place_of symbols (take n t
 
 abbrev pub symbol_by : Option ℕ → ℕ → Result Front LexFault → Result Front LexFault
 symbol_by None n shorter = shorter
-symbol_by (Some k) n shorter = Ok (Piece (Symbol k) n)
+symbol_by (Some k) n shorter = Ok (Lexeme (Symbol k) n)
 
 -- no symbol has more than three bytes
 unfoldable pub symbol_of : ℕ → List ℕ → Result Front LexFault

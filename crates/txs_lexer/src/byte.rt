@@ -5,29 +5,13 @@ ghost use Rattle.txs_values.specs.Spelling.{run_of};
 ghost use Rattle.txs_lexer.specs.Scan;
 ghost use Rattle.txs_lexer.specs.Tokens;
 
+use txs_values::is_name_byte;
+
 /// A space, a tab, a carriage return or a line feed.
 pub fn is_blank(byte: u8) -> bool
     ensures { result ≡ Tokens.is_blank byte }
 {
     byte == b' ' || byte == b'\t' || byte == b'\r' || byte == b'\n'
-}
-
-pub fn is_digit(byte: u8) -> bool
-    ensures { result ≡ Spelling.is_digit byte }
-{
-    b'0' <= byte && byte <= b'9'
-}
-
-pub fn is_letter(byte: u8) -> bool
-    ensures { result ≡ Spelling.is_letter byte }
-{
-    (b'A' <= byte && byte <= b'Z') || (b'a' <= byte && byte <= b'z')
-}
-
-fn is_name_byte(byte: u8) -> bool
-    ensures { result ≡ Spelling.is_name_byte byte }
-{
-    is_letter(byte) || is_digit(byte) || byte == b'_'
 }
 
 fn is_in_line(byte: u8) -> bool
@@ -76,21 +60,6 @@ pub fn name_len(bytes: &[u8]) -> usize
     let mut len = 0;
     for byte in bytes {
         if !is_name_byte(*byte) {
-            break;
-        }
-        len += 1;
-    }
-    len
-}
-
-/// How many digits stand in front.
-pub fn digits_len(bytes: &[u8]) -> usize
-    ensures run { result ≡ length (run_of Spelling.is_digit bytes.now) }
-    ensures within { result ≤ length bytes.now }
-{
-    let mut len = 0;
-    for byte in bytes {
-        if !is_digit(*byte) {
             break;
         }
         len += 1;

@@ -3,19 +3,20 @@ ghost use Rattle.std.specs.Prelude.{◌≡◌, ◌<◌, ◌≤◌, ◌+◌, ◌^
 ghost use Rattle.txs_lexer.specs.Scan.{Gives, IsTail, front_of};
 
 use crate::LexFault;
-use crate::byte::{digits_len, first, is_blank, is_digit, is_letter, name_len};
+use crate::byte::{first, is_blank, name_len};
 use crate::name::name_token;
 use crate::number::number_token;
 use crate::quoted::quoted_token;
 use crate::signs::sign;
 use crate::token::Kind;
 use std::alloc::Global;
+use txs_values::{digits_len, is_digit, is_letter};
 
 /// A blank or a comment, or a token, with the number of its bytes.
 #[derive(Debug, Drop)]
 pub enum Front {
     Gap(usize),
-    Piece(Kind, usize),
+    Lexeme(Kind, usize),
 }
 
 /// What the rest of a text, from `at` on, begins with.

@@ -27,7 +27,7 @@ pub fn name_token(alloc: Global, name: &[u8]) -> Result<Front, LexFault>
     ensures { Gives result (Ok (named_by (word_number name.now) name.now)) }
 {
     match word_number(name) {
-        Some(k) => Ok(Front::Piece(Kind::Word(k as u32), name.len())),
-        None => Ok(Front::Piece(Kind::Name(text_of(alloc, name)?), name.len())),
+        Some(k) => Ok(Front::Lexeme(Kind::Word(k as u32), name.len())),
+        None => Ok(Front::Lexeme(Kind::Name(text_of(alloc, name)?), name.len())),
     }
 }

@@ -27,7 +27,7 @@ pub fn number_token(at: usize, digits: &[u8]) -> Result<Front, LexFault>
     ensures { result ≡ numbered at digits.now }
 {
     match number_of(digits) {
-        Some(n) => Ok(Front::Piece(Kind::Number(n), digits.len())),
+        Some(n) => Ok(Front::Lexeme(Kind::Number(n), digits.len())),
         None => Err(LexFault::Number { at }),
     }
 }

@@ -95,7 +95,7 @@ pub fn quoted_token(alloc: Global, at: usize, behind: &[u8]) -> Result<Front, Le
     match meaning(alloc, first(behind, len))? {
         Ok(text) => {
             let text = text_of(alloc, text.as_slice())?;
-            Ok(Front::Piece(Kind::Quoted(text), len + 2))
+            Ok(Front::Lexeme(Kind::Quoted(text), len + 2))
         }
         Err(k) => Err(LexFault::BadChar { at: at + 1 + k }),
     }

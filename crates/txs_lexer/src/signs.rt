@@ -13,13 +13,13 @@ fn symbol(at: usize, text: &[u8]) -> Result<Front, LexFault>
     ensures { result ≡ symbol_of at text.now }
 {
     if let Some(k) = symbol_number(text, 3) {
-        return Ok(Front::Piece(Kind::Symbol(k as u32), 3));
+        return Ok(Front::Lexeme(Kind::Symbol(k as u32), 3));
     }
     if let Some(k) = symbol_number(text, 2) {
-        return Ok(Front::Piece(Kind::Symbol(k as u32), 2));
+        return Ok(Front::Lexeme(Kind::Symbol(k as u32), 2));
     }
     if let Some(k) = symbol_number(text, 1) {
-        return Ok(Front::Piece(Kind::Symbol(k as u32), 1));
+        return Ok(Front::Lexeme(Kind::Symbol(k as u32), 1));
     }
     Err(LexFault::BadChar { at })
 }

@@ -38,7 +38,7 @@ fn read_one(alloc: Global, tokens: &mut Tokens, at: usize, rest: &[u8]) -> Resul
 {
     match read_front(alloc, at, rest)? {
         Front::Gap(len) => Ok(len),
-        Front::Piece(kind, len) => {
+        Front::Lexeme(kind, len) => {
             tokens.push(Token {
                 kind,
                 from: at,
@@ -74,6 +74,3 @@ pub fn one_answer()
 pub fn some_answer()
     ensures { (bytes : List ℕ) → (answer : Answer) × IsLexed bytes answer }
 {}
-
-#[cfg(test)]
-mod tests;

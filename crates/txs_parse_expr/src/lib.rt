@@ -9,6 +9,3 @@ mod tree;
 
 pub use fault::ParseFault;
 pub use parse::{one_tree, parse_expr};
-
-#[cfg(test)]
-mod tests;

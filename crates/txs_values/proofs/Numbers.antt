@@ -1,39 +1,19 @@
 -- The number in front of a text, and what it spells.
-use Rattle.std.proofs.Common.{◌≡◌, ◌≢◌, ℕ, ℤ, ◌<◌, ◌≤◌, ◌^◌, ◌↔◌, Bool, true, false, cond, eqb, eqb-true, List, [], ◌∷◌, length, take, drop, Option, Some, None, Result, Ok, Err, refl, sym, ◌∙◌, ap, subst, arith, FitsSigned, MatchOption}
-use Rattle.std.proofs.lemmas.Bool.Decides.{nat_tests, Decides-ltb}
+use Rattle.std.proofs.Common.{◌≡◌, ◌≢◌, ℕ, ℤ, ◌≤◌, ◌↔◌, Bool, true, false, cond, eqb, eqb-true, List, [], ◌∷◌, length, take, drop, Option, Some, None, Result, Ok, Err, refl, sym, ◌∙◌, ap, subst, arith, FitsSigned, MatchOption}
+use Rattle.std.proofs.lemmas.Bool.Decides.{nat_tests}
 use Rattle.std.proofs.lemmas.Fmt.{IsAscii-from_digits}
 use Rattle.std.proofs.lemmas.Str.Ascii.{IsAscii-nil, IsAscii-cons}
-use Rattle.std.specs.Char.{digit_value}
 use Rattle.std.specs.Int.{w128}
-use Rattle.std.specs.Int.Signed.{mag}
 use Rattle.std.specs.Str.{IsAscii}
 use Rattle.std.specs.Str.Parse.{AllDigits, IsNumeral}
 use Rattle.txs_values.specs.Ints.{number_run, past_number, has_digit, IsNumber}
 use Rattle.txs_values.specs.Spelling.{is_digit, run_of, past_run, past_blanks, Front, then_front, number_front, alone, last_value, last_number, lone_number, spelled_number, read_text}
 use Rattle.txs_values.specs.Value.{Table, integer, Value, num, fits, value_height_limit, value_size_limit}
+use Rattle.txs_values.proofs.Digits.{digit-value}
+use Rattle.txs_values.proofs.Ranges.{fits_true, true_fits}
+use Rattle.txs_values.proofs.Runs.{run-length, take-run, drop-run}
 
 -- ---- the front as a prefix
-
-pub run-length : (p : ℕ → Bool) (bs : List ℕ) → length (run_of p bs) ≤ length bs
-run-length p [] = omega arith
-run-length p (b ∷ bs) = elim (p b) as (λ t. length (cond t (b ∷ run_of p bs) []) ≤ length (b ∷ bs)) [
-  | true ↦ let h = run-length p bs in omega (arith, h)
-  | false ↦ omega arith
-]
-
-pub take-run : (p : ℕ → Bool) (bs : List ℕ) → take (length (run_of p bs)) bs ≡ run_of p bs
-take-run p [] = refl
-take-run p (b ∷ bs) = elim (p b) as (λ t. take (length (cond t (b ∷ run_of p bs) [])) (b ∷ bs) ≡ cond t (b ∷ run_of p bs) []) [
-  | true ↦ ap (λ (q : List ℕ). b ∷ q) (take-run p bs)
-  | false ↦ refl
-]
-
-pub drop-run : (p : ℕ → Bool) (bs : List ℕ) → drop (length (run_of p bs)) bs ≡ past_run p bs
-drop-run p [] = refl
-drop-run p (b ∷ bs) = elim (p b) as (λ t. drop (length (cond t (b ∷ run_of p bs) [])) (b ∷ bs) ≡ cond t (past_run p bs) (b ∷ bs)) [
-  | true ↦ drop-run p bs
-  | false ↦ refl
-]
 
 pub number_run-length : (bs : List ℕ) → length (number_run bs) ≤ length bs
 number_run-length [] = omega arith
@@ -57,9 +37,6 @@ drop-number_run (b ∷ bs) = elim (eqb b 45) as (λ t. drop (length (cond t (b �
 ]
 
 -- ---- the front is a number
-
-digit-value : (b : ℕ) → is_digit b ≡ true → digit_value b < 10
-digit-value b h = grind (arith, nat_tests)
 
 digit-signless : (b : ℕ) → is_digit b ≡ true → (b ≢ 43) × (eqb b 45 ≡ false)
 digit-signless b h = grind (arith, nat_tests)
@@ -113,19 +90,11 @@ number_ascii (b ∷ bs) h = by_sign b bs (eqb b 45) (eqb b 43) refl refl h.0 h.1
 
 -- ---- the value
 
-fits-true : (z : ℤ) → FitsSigned w128 z → fits z ≡ true
-unfolding fits
-fits-true z h = (Decides-ltb (mag z) (2 ^ 127)).1 h.sfits
-
-true-fits : (z : ℤ) → fits z ≡ true → FitsSigned w128 z
-unfolding fits
-true-fits z h = record { sfits = (Decides-ltb (mag z) (2 ^ 127)).0 h }
-
 pub parsed-ok : {E : Type 0} (e : E) (z n : ℤ) → FitsSigned w128 z → n ≡ z → ◌≡◌ {A = Result ℤ E} (Ok n) (cond (fits z) (Ok z) (Err e))
-parsed-ok e z n f h = ap Ok h ∙ sym (ap (λ (t : Bool). cond t (Ok z) (Err e)) (fits-true z f))
+parsed-ok e z n f h = ap Ok h ∙ sym (ap (λ (t : Bool). cond t (Ok z) (Err e)) (fits_true z f))
 
 past-false : (z : ℤ) (t : Bool) → fits z ≡ t → (FitsSigned w128 z → ⊥) → fits z ≡ false
-past-false z true e h = absurd (h (true-fits z e))
+past-false z true e h = absurd (h (true_fits z e))
 past-false z false e h = e
 
 pub parsed-err : {E : Type 0} (e : E) (z : ℤ) → (FitsSigned w128 z → ⊥) → ◌≡◌ {A = Result ℤ E} (Err e) (cond (fits z) (Ok z) (Err e))

@@ -8,7 +8,8 @@ ghost use Rattle.txs_values.specs.Spelling as spelling;
 ghost use Rattle.txs_values.specs.TableView.{field_of};
 ghost use Rattle.txs_values.specs.View.{value_of, values_of, ty_of};
 
-use crate::ints::{is_digit, is_number, number_value, skip_blanks, split_number};
+use crate::byte::is_name_byte;
+use crate::ints::{is_number, number_value, skip_blanks, split_number};
 use crate::table::FieldDef;
 use crate::{Text, Ty, TypeTable, Value, Values, memory};
 use sqlite_items::Items;
@@ -44,15 +45,6 @@ impl From<memory::NoMemory> for Stop {
     fn from(_error: memory::NoMemory) -> Stop {
         Stop::NoMemory
     }
-}
-
-fn is_name_byte(byte: u8) -> bool
-    ensures { result ≡ spelling.is_name_byte byte }
-{
-    (b'A' <= byte && byte <= b'Z')
-        || (b'a' <= byte && byte <= b'z')
-        || is_digit(byte)
-        || byte == b'_'
 }
 
 /// What follows this byte, which stands first.

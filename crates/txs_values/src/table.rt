@@ -90,7 +90,7 @@ impl TypeTable {
     }
 
     /// The constructor of this number, with the place of its type.
-    pub fn place(&self, id: u32) -> Option<(usize, &ConsDef)>
+    pub fn constructor_at(&self, id: u32) -> Option<(usize, &ConsDef)>
         ensures { MatchOption result (place_of self.now id ≡ None) (λ p. place_of self.now id
             ≡ Some (record { ty = p.0; constructor = cons_of p.1.now })) }
     {

@@ -1,5 +1,6 @@
 use Rattle.std.proofs.Common.{ap, sym, ◌∙◌}
-use Rattle.txs_lexer.proofs.Numerals.{parse-number, parsed, numeral-utf8}
+use Rattle.txs_values.proofs.Digits.{parsed}
+use Rattle.txs_lexer.proofs.Numerals.{parse-number, numeral-utf8}
 use Rattle.txs_lexer.proofs.number.number_of.Goals as goal
 
 pub unreachable-requires : goal.unreachable-requires

@@ -1,6 +1,6 @@
 use Rattle.std.proofs.Common.{◌≡◌, ◌∙◌, ℕ, ◌+◌, List, Ok, Err, true, false, ap, sym, subst}
 use Rattle.std.specs.Str.{IsUtf8}
-use Rattle.txs_lexer.specs.declared.front.Front.TheVariants.{Piece}
+use Rattle.txs_lexer.specs.declared.front.Front.TheVariants.{Lexeme}
 use Rattle.txs_lexer.specs.declared.token.Kind.TheVariants.{Quoted}
 use Rattle.txs_lexer.specs.Scan.{inside_len}
 use Rattle.txs_lexer.proofs.Quoting.{test-is, meaning-is, quoted-open, quoted-closed, closed-utf8}
@@ -22,7 +22,7 @@ returns-in_ok-text-in-Ok c =
     let same : c.in_ok-text-in-Ok.text ≡ c.in-Ok.text = c.in_ok-text-in-Ok.ensures ∙ c.as_slice.ensures in
     let means = meaning-is c.args.behind.now c.first.result.now c.inside_len-len.result c.in_ok-text.field-0 (Ok c.in-Ok.text) c.inside_len-len.ensures.number c.first.ensures c.in_ok-text.ensures.read c.in-Ok.is in
     quoted-closed c.args.at c.args.behind.now (Ok c.in-Ok.text) quote means
-    ∙ (ap (λ (q : List ℕ). Ok (Piece (Quoted q) (inside_len c.args.behind.now + 2))) (sym same) ∙ ap (λ (n : ℕ). Ok (Piece (Quoted c.in_ok-text-in-Ok.text) (n + 2))) (sym c.inside_len-len.ensures.number))
+    ∙ (ap (λ (q : List ℕ). Ok (Lexeme (Quoted q) (inside_len c.args.behind.now + 2))) (sym same) ∙ ap (λ (n : ℕ). Ok (Lexeme (Quoted c.in_ok-text-in-Ok.text) (n + 2))) (sym c.inside_len-len.ensures.number))
 
 pub returns-in-Err : goal.returns-in-Err
 returns-in-Err c =

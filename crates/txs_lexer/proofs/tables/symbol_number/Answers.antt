@@ -3,7 +3,7 @@ use Rattle.std.specs.List.{position}
 use Rattle.txs_lexer.specs.Scan.{place_of}
 use Rattle.txs_lexer.specs.Words.{symbols}
 use Rattle.txs_lexer.proofs.Places.{place-from}
-use Rattle.txs_lexer.proofs.Tests.{yes, le-true}
+use Rattle.txs_values.proofs.Tests.{yes, le-true}
 use Rattle.txs_lexer.proofs.tables.symbol_number.Goals as goal
 
 pub returns-clause-number : goal.returns-clause-number

@@ -10,13 +10,13 @@ returns-in_err-len c =
 
 pub overflow_add-at : goal.overflow_add-at
 overflow_add-at c =
-    let front = c.in_ok-len.ensures ∙ ap Ok c.in-Piece.is in
-    let within = token-within c.args.at c.args.rest.now c.in-Piece.kind c.in-Piece.len c.requires.some front in
+    let front = c.in_ok-len.ensures ∙ ap Ok c.in-Lexeme.is in
+    let within = token-within c.args.at c.args.rest.now c.in-Lexeme.kind c.in-Lexeme.len c.requires.some front in
     omega (arith, within)
 
 pub returns-in-Gap : goal.returns-in-Gap
 returns-in-Gap c = gap-steps c.args.at c.args.rest.now c.args.tokens.now c.in-Gap.len c.requires.some (c.in_ok-len.ensures ∙ ap Ok c.in-Gap.is)
 
-pub returns-in_ok-push-in-Piece : goal.returns-in_ok-push-in-Piece
-returns-in_ok-push-in-Piece c =
-    token-steps c.args.at c.args.rest.now c.args.tokens.now c.push.new.self c.in-Piece.kind c.in-Piece.len c.requires.some (c.in_ok-len.ensures ∙ ap Ok c.in-Piece.is) c.in_ok-push-in-Piece.ensures.ok
+pub returns-in_ok-push-in-Lexeme : goal.returns-in_ok-push-in-Lexeme
+returns-in_ok-push-in-Lexeme c =
+    token-steps c.args.at c.args.rest.now c.args.tokens.now c.push.new.self c.in-Lexeme.kind c.in-Lexeme.len c.requires.some (c.in_ok-len.ensures ∙ ap Ok c.in-Lexeme.is) c.in_ok-push-in-Lexeme.ensures.ok

@@ -1,7 +1,7 @@
 use Rattle.std.proofs.Common.{◌≡◌, None, sym, ap, ◌∙◌, arith, slice_get}
 use Rattle.std.specs.Option.{option_copied}
 use Rattle.txs_values.proofs.Tables.{place-found, place-past, past-length}
-use Rattle.txs_values.proofs.table.TypeTable.place.Goals as goal
+use Rattle.txs_values.proofs.table.TypeTable.constructor_at.Goals as goal
 
 pub returns-in-Some : goal.returns-in-Some
 returns-in-Some c =

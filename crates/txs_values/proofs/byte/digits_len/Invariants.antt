@@ -1,7 +1,6 @@
 use Rattle.std.proofs.Common.{◌≡◌, ◌+◌, length, drop}
-use Rattle.txs_values.specs.Spelling.{run_of}
-use Rattle.txs_values.specs.Spelling.{is_digit}
-use Rattle.txs_lexer.proofs.byte.digits_len.Given as goal
+use Rattle.txs_values.specs.Spelling.{run_of, is_digit}
+use Rattle.txs_values.proofs.byte.digits_len.Given as goal
 
 abbrev pub invariant-loop-byte : goal.invariant-loop-byte
 invariant-loop-byte l = record {

@@ -1,7 +1,7 @@
 use Rattle.std.proofs.Common.{◌≡◌, drop}
 use Rattle.txs_values.specs.Value.{place_from, place_of}
 use Rattle.txs_values.specs.TableView.{table_of}
-use Rattle.txs_values.proofs.table.TypeTable.place.Given as goal
+use Rattle.txs_values.proofs.table.TypeTable.constructor_at.Given as goal
 
 abbrev pub invariant-loop-def : goal.invariant-loop-def
 invariant-loop-def l = record {
