@@ -1,10 +1,10 @@
 use Rattle.std.proofs.Common.{[], ◌∷◌, take, sym, subst, ◌∙◌}
 use Rattle.std.proofs.lemmas.List.{take_all}
 use Rattle.txs_types.specs.Files.{types_used}
-use Rattle.txs_types.specs.Told.{Finds}
-use Rattle.txs_types.specs.Among.{AnyUndefined}
-use Rattle.txs_types.proofs.NameLaws.{used_next}
-use Rattle.txs_types.proofs.Offending.{any_least}
+use Rattle.txs_types.specs.inner.Told.{Finds}
+use Rattle.txs_types.specs.inner.Among.{AnyUndefined}
+use Rattle.txs_types.proofs.naming.Loops.{used_next}
+use Rattle.txs_types.proofs.files.Offending.{any_least}
 use Rattle.txs_types.proofs.declarations.undefined.Goals as goal
 
 pub loop-decl-preserved : goal.loop-decl-preserved

@@ -1,5 +1,5 @@
 use Rattle.std.proofs.Common.{sym, ◌∙◌}
-use Rattle.txs_types.proofs.Offending.{undefined_stands, undefined_none}
+use Rattle.txs_types.proofs.files.Offending.{undefined_stands, undefined_none}
 use Rattle.txs_types.proofs.declarations.undefined_name.Goals as goal
 
 pub returns-then-is_undefined : goal.returns-then-is_undefined
