@@ -1,6 +1,7 @@
-ghost use Rattle.std.specs.Prelude.{◌≡◌, ◌++◌, ◌∷◌, [], IfOk, OnOk, map};
+ghost use Rattle.std.specs.Prelude.{◌≡◌, ◌++◌, ◌∷◌, [], IfOk, IfSome, OnOk, map};
 ghost use Rattle.txs_values.specs.View.{ty_of};
 ghost use Rattle.txs_values.specs.TableView.{field_of};
+ghost use Rattle.txs_types.specs.declared.fault.TypeFault.TheVariants as fault;
 ghost use Rattle.txs_types.specs.Files as files;
 ghost use Rattle.txs_types.specs.inner.Told.{Finds};
 ghost use Rattle.txs_types.specs.inner.Among.{AnyUndefined};
@@ -132,7 +133,8 @@ pub fn is_undefined(types: &[Name], name: &Name) -> bool
 
 /// The fault of the type name, if it has no definition.
 pub fn undefined_name(types: &[Name], name: &Name) -> Option<TypeFault>
-    ensures { Finds result (AnyUndefined types.now (name.now ∷ [])) }
+    ensures told { Finds result (AnyUndefined types.now (name.now ∷ [])) }
+    ensures unknown { IfSome result (λ f. f ≡ fault.Unknown name.now.at) }
 {
     if is_undefined(types, name) {
         Some(TypeFault::Unknown { at: name.at })

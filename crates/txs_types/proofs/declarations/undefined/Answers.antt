@@ -15,7 +15,7 @@ loop-decl-preserved c =
     subst (λ ns. Finds c.least-fault.result (AnyUndefined types ns))
     (sym (used_next decls c.loop-decl.decl-index d c.loop-decl-test.true c.decl-item.is))
     (any_least types (types_used (take c.loop-decl.decl-index decls)) (d.ty ∷ []) c.loop-decl.fault c.undefined_name.result c.least-fault.result
-    c.least-fault.ensures c.loop-decl.invariant c.undefined_name.ensures)
+    c.least-fault.ensures c.loop-decl.invariant c.undefined_name.ensures.told)
 
 pub returns : goal.returns
 returns c =
