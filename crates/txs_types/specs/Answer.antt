@@ -1,6 +1,8 @@
--- What a result of the program says of offences.
-use Rattle.std.specs.Prelude.{◌≡◌, ◌≢◌, ℕ, List, [], Option, Some, None, IfSome, slice_get}
+-- What the needed type that a call is given stands for, and what its result says.
+use Rattle.std.specs.Prelude.{◌≡◌, ◌≢◌, ℕ, List, [], Option, Some, None, option_map, IfSome, slice_get}
+use Rattle.txs_values.specs.declared.ty.Ty as rust_ty
 use Rattle.txs_values.specs.Value.{Ty, Value, HasType, HaveTypes}
+use Rattle.txs_values.specs.View.{ty_of}
 use Rattle.txs_terms.specs.Expr.{Expr, put, filled}
 use Rattle.txs_terms.specs.Eval.{eval, got, bad, wrong}
 use Rattle.txs_terms.specs.Defs.{Function, Constant, Definitions, bodies}
@@ -8,6 +10,10 @@ use Rattle.txs_types.specs.declared.fault.TypeFault.{TypeFault}
 use Rattle.txs_types.specs.declared.fault.TypeFault.TheVariants as fault
 use Rattle.txs_types.specs.Offends.{Offence, twice, unknown, arity, mismatch, empty_type, big_type}
 use Rattle.txs_types.specs.Files.{Decides}
+
+-- the needed type, if there is one
+abbrev pub want_of : Option rust_ty.Ty → Option Ty
+want_of t = option_map ty_of t
 
 -- the offence that a fault names
 abbrev pub offence_of : TypeFault → Option Offence

@@ -1,4 +1,4 @@
--- Which expression, of which type, a tree means where it is needed at a type, or at none.
+-- Which expression, of which type, a tree means that is needed at a type, or at none.
 use Rattle.std.specs.Prelude.{◌≡◌, ℕ, ℤ, Bool, true, false, not, ◌&&◌, bytes_eq, codes, List, [], ◌∷◌, Option, Some, None}
 use Rattle.txs_values.specs.Value.{Ty, integer, truth, string, named, num, text, cons, no_value, fits}
 use Rattle.txs_terms.specs.Expr.{Expr, val, one, two, equal, both, either, choose, apply, build, let_in, negate, negation, to_text, from_text, len, is_made_by, select, plus, minus, times, divide, remainder, concat, differ, less_than, at_most, more_than, at_least, char_at}
@@ -12,7 +12,7 @@ use Rattle.txs_syntax.specs.declared.ast.Ast.TheOpen.{Ast-F}
 use Rattle.txs_syntax.specs.declared.ast.Ast.TheFolds.{fold-Ast}
 use Rattle.txs_types.specs.Names.{Scope, Fits, inside, meaning, called, Meaning, named_function, named_constructor, named_test, named_selector, named_not, named_to_string, named_from_string, named_len, named_at}
 
--- a tree of this type stands where this one, or none, is needed
+-- a tree of this type may stand if this one, or none, is needed
 abbrev pub Suits : Scope → Option Ty → Ty → Type 0
 Suits scope None t = Unit {0}
 Suits scope (Some s) t = Fits scope s t
@@ -57,7 +57,7 @@ from_outside = fold-Ast Bool outside_step
 abbrev pub right_first : Ast → Ast → Bool
 right_first a b = from_outside a && not (from_outside b)
 
--- what is called, with these arguments, where this type or none is needed, is this expression of this type
+-- what is called, with these arguments, if this type or none is needed, is this expression of this type
 pub data Makes : Option Ty → Meaning → List Expr → Expr → Ty → Type 0 where
   function_made : (want : Option Ty) (f : ℕ) (ts : List Ty) (t : Ty) (es : List Expr) → Makes want (named_function f ts t) es (apply f (gathered es)) t
   value_made : (want : Option Ty) (c k : ℕ) → Makes want (named_constructor c k []) [] (val (cons c no_value)) (named k)
@@ -92,17 +92,17 @@ mutual
     compared : {scope : Scope} {want : Option Ty} {o : Op} (a b : Ast) {e f : Expr} {s r : Ty} {make : Expr → Expr → Expr} → Comparison o make
         → right_first a b ≡ false → Elaborates scope None a e s → Elaborates scope (Some s) b f r → Suits scope want truth
         → Elaborates scope want (tree.Binary o a b) (make e f) truth
-    -- where the left side can be typed from outside alone, it is needed equal to the right one
+    -- if the left side can be typed from outside alone, it is needed equal to the right one
     compared_back : {scope : Scope} {want : Option Ty} {o : Op} (a b : Ast) {e f : Expr} {s r : Ty} {make : Expr → Expr → Expr} → Comparison o make
         → right_first a b ≡ true → Elaborates scope None b f s → Elaborates scope (Some s) a e r → Suits scope want truth
         → Elaborates scope want (tree.Binary o a b) (make e f) truth
     grouped : {scope : Scope} {want : Option Ty} {at : ℕ} (a : Ast) {e : Expr} {t : Ty} → Elaborates scope want a e t
         → Elaborates scope want (tree.Group at a) e t
-    -- where a type is needed, both branches are needed at it
+    -- if a type is needed, both branches are needed at it
     chosen : {scope : Scope} {at : ℕ} (p a b : Ast) {c e f : Expr} {q r s t : Ty} → Elaborates scope (Some truth) p c q
         → Elaborates scope (Some t) a e r → Elaborates scope (Some t) b f s
         → Elaborates scope (Some t) (tree.If at p a b) (choose c e f) t
-    -- where none is needed, THEN is typed first, and ELSE is needed equal
+    -- if none is needed, THEN is typed first, and ELSE is needed equal
     chosen_freely : {scope : Scope} {at : ℕ} (p a b : Ast) {c e f : Expr} {q s t : Ty} → Elaborates scope (Some truth) p c q
         → Elaborates scope None a e t → Elaborates scope (Some t) b f s
         → Elaborates scope None (tree.If at p a b) (choose c e f) t

@@ -1,8 +1,10 @@
 -- What offends in a file, and the definitions that a file without an offence means.
 use Rattle.std.specs.Prelude.{◌≡◌, ◌⊎◌, ◌≤◌, ◌<◌, ℕ, suc, ◌+◌, Bool, true, false, ◌||◌, cond, bytes_eq, codes, List, [], ◌∷◌, ◌++◌, length, map, Option, Some, None, slice_get}
-use Rattle.txs_values.specs.Value.{Ty, integer, truth, string, named, Value, Constructor, Table, field_types, size, height, value_size_limit, value_height_limit}
+use Rattle.txs_values.specs.Value.{Ty, integer, truth, string, named, Value, Constructor, Table, field_types, Place, place_of, size, height, value_size_limit, value_height_limit}
+use Rattle.txs_values.specs.Spelled.{IsName}
 use Rattle.txs_values.specs.Default.{default_if}
 use Rattle.txs_terms.specs.Expr.{Expr}
+use Rattle.txs_terms.specs.Typed.{IsType}
 use Rattle.txs_terms.specs.Defs.{Function, Constant, Definitions}
 use Rattle.txs_syntax.specs.declared.ast.Name.{Name}
 use Rattle.txs_syntax.specs.declared.ast.Ast.{Ast}
@@ -25,7 +27,7 @@ type_names (def.TypeDef x cs ∷ ds) = x ∷ type_names ds
 type_names (def.FuncDef x ps r e ∷ ds) = type_names ds
 type_names (def.ConstDef x t e ∷ ds) = type_names ds
 
--- the place of the first of this name; the first has number k, and where there is none it is the number behind the last
+-- the number of the first type of this name, if the first of all has number k; if there is none, the number after the last
 abbrev pub type_number : List ℕ → ℕ → List Name → ℕ
 type_number x k [] = k
 type_number x k (n ∷ ns) = cond (bytes_eq n.text x) k (type_number x (suc k) ns)
@@ -93,10 +95,10 @@ abbrev pub is_among : List ℕ → List (List ℕ) → Bool
 is_among x [] = false
 is_among x (y ∷ ys) = bytes_eq y x || is_among x ys
 
--- behind these names, a name at this place is there already
+-- after these names, a name at this offset is there already
 pub data Repeats : List (List ℕ) → List Name → ℕ → Type 0 where
   here : {xs : List (List ℕ)} {n : Name} {ns : List Name} → is_among n.text xs ≡ true → Repeats xs (n ∷ ns) n.at
-  behind : {xs : List (List ℕ)} {n : Name} {ns : List Name} {at : ℕ} → Repeats (n.text ∷ xs) ns at → Repeats xs (n ∷ ns) at
+  further : {xs : List (List ℕ)} {n : Name} {ns : List Name} {at : ℕ} → Repeats (n.text ∷ xs) ns at → Repeats xs (n ∷ ns) at
 
 abbrev pub built_in_types : List (List ℕ)
 built_in_types = codes "Int" ∷ codes "Bool" ∷ codes "String" ∷ []
@@ -146,7 +148,7 @@ any_undefined types (n ∷ ns) = is_undefined types n || any_undefined types ns
 
 -- ---- types without a value, and with too big a default
 
--- the types, where one with a field of an unknown type is given a constructor without fields instead
+-- the types, but that one with a field of an unknown type is given a constructor without fields instead
 abbrev pub excused : List Name → List Def → Table
 excused types [] = []
 excused types (def.TypeDef x cs ∷ ds) =
@@ -215,9 +217,13 @@ pub record IsMeant (file : File) (d : Definitions) : Type 0 where
   pub functions : AreFunctions file file.defs d.functions
   pub constants : AreConstants file file.defs d.constants
 
+-- the constructors of the file are called by names
+abbrev pub FileHasNames : File → Type 0
+FileHasNames file = (c : ℕ) (p : Place) → place_of (table_of file) c ≡ Some p → IsName p.constructor.name
+
 -- ---- queries
 
--- the names of the types; of their places nothing is asked
+-- the names of the types; of their offsets nothing is asked
 abbrev pub names_of : Table → List Name
 names_of [] = []
 names_of (t ∷ ts) = record { at = 0; text = t.name } ∷ names_of ts
@@ -229,6 +235,11 @@ query_scope d list = scope_over d (variables_of (names_of d.table) list)
 -- the types of the declared variables
 abbrev pub declared_types : Definitions → DeclList → List Ty
 declared_types d list = field_types (variables_of (names_of d.table) list)
+
+-- the type that is needed, if one is, is of the table
+abbrev pub IsNeed : Table → Option Ty → Type 0
+IsNeed table None = Unit {0}
+IsNeed table (Some t) = IsType table t
 
 -- over definitions and declared variables the tree means this expression, of this type
 abbrev pub QueryMeans : Definitions → DeclList → Option Ty → Ast → Expr → Ty → Type 0
@@ -243,7 +254,7 @@ pub data QueryOffends (d : Definitions) (list : DeclList) (want : Option Ty) (tr
 
 -- ---- which of several decides
 
--- the order of offences at one place
+-- the order of offences at one offset
 abbrev pub rank : Offence → ℕ
 rank (twice at) = 0
 rank (unknown at) = 1
@@ -252,17 +263,17 @@ rank (mismatch at) = 3
 rank (empty_type at) = 4
 rank (big_type at) = 5
 
-abbrev pub place : Offence → ℕ
-place (twice at) = at
-place (unknown at) = at
-place (arity at) = at
-place (mismatch at) = at
-place (empty_type at) = at
-place (big_type at) = at
+abbrev pub offset : Offence → ℕ
+offset (twice at) = at
+offset (unknown at) = at
+offset (arity at) = at
+offset (mismatch at) = at
+offset (empty_type at) = at
+offset (big_type at) = at
 
 -- the first stands no later than the second
 abbrev pub NotAfter : Offence → Offence → Type 0
-NotAfter o p = (place o < place p) ⊎ (place o ≡ place p) × (rank o ≤ rank p)
+NotAfter o p = (offset o < offset p) ⊎ (offset o ≡ offset p) × (rank o ≤ rank p)
 
 -- of the offences that stand, this one decides
 pub record Decides (Stands : Offence → Type 0) (o : Offence) : Type 0 where

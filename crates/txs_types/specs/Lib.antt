@@ -2,12 +2,5 @@ pub mod Names
 pub mod Elaborates
 pub mod Offends
 pub mod Files
-pub mod Laws
 pub mod Answer
-pub mod Told
-pub mod View
-pub mod Parts
-pub mod Queries
-pub mod Among
-pub mod Counted
-pub mod Collected
+pub mod inner

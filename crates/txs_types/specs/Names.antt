@@ -48,7 +48,7 @@ IsUnknown scope truth = ⊥
 IsUnknown scope string = ⊥
 IsUnknown scope (named k) = scope.types ≤ k
 
--- one type stands where the other is needed: they are equal, or one of them has no definition
+-- one type may stand if the other is needed: they are equal, or one of them has no definition
 abbrev pub Fits : Scope → Ty → Ty → Type 0
 Fits scope s t = (s ≡ t) ⊎ IsUnknown scope s ⊎ IsUnknown scope t
 

@@ -11,7 +11,7 @@ use Rattle.txs_syntax.specs.declared.ast.Ast.TheFolds.{fold-Ast}
 use Rattle.txs_types.specs.Names.{Scope, Fits, anything, inside, meaning, called, Meaning, named_from_string}
 use Rattle.txs_types.specs.Elaborates.{Operator, Comparison, right_first, Elaborates, ElaboratesEach}
 
--- an offence at a place of the text
+-- an offence at an offset of the text
 pub data Offence : Type 0 where
   twice : ℕ → Offence
   unknown : ℕ → Offence
@@ -20,36 +20,37 @@ pub data Offence : Type 0 where
   empty_type : ℕ → Offence
   big_type : ℕ → Offence
 
--- one level, whose parts have these places
-abbrev pub first_step : Ast-F ℕ → ℕ
-first_step (Ast-F.Number at n) = at
-first_step (Ast-F.Text at s) = at
-first_step (Ast-F.Name x) = x.at
-first_step (Ast-F.Call x es) = x.at
-first_step (Ast-F.Negate at a) = at
-first_step (Ast-F.Binary o a b) = a
-first_step (Ast-F.Group at a) = at
-first_step (Ast-F.If at p a b) = at
-first_step (Ast-F.Let at x a b) = at
+-- one level, whose parts start at these offsets
+abbrev pub start_step : Ast-F ℕ → ℕ
+start_step (Ast-F.Number at n) = at
+start_step (Ast-F.Text at s) = at
+start_step (Ast-F.Name x) = x.at
+start_step (Ast-F.Call x es) = x.at
+start_step (Ast-F.Negate at a) = at
+start_step (Ast-F.Binary o a b) = a
+start_step (Ast-F.Group at a) = at
+start_step (Ast-F.If at p a b) = at
+start_step (Ast-F.Let at x a b) = at
 
--- the place of an expression's first token
-abbrev pub first : Ast → ℕ
-first = fold-Ast ℕ first_step
+-- the offset of an expression's first token
+abbrev pub start : Ast → ℕ
+start = fold-Ast ℕ start_step
 
-abbrev pub whole_step : Ast-F Bool → Bool
-whole_step (Ast-F.Number at n) = true
-whole_step (Ast-F.Text at s) = true
-whole_step (Ast-F.Name x) = true
-whole_step (Ast-F.Call x es) = true
-whole_step (Ast-F.Negate at a) = true
-whole_step (Ast-F.Binary o a b) = true
-whole_step (Ast-F.Group at a) = false
-whole_step (Ast-F.If at p a b) = false
-whole_step (Ast-F.Let at x a b) = false
+-- one level
+abbrev pub keeps_need_step : Ast-F Bool → Bool
+keeps_need_step (Ast-F.Number at n) = true
+keeps_need_step (Ast-F.Text at s) = true
+keeps_need_step (Ast-F.Name x) = true
+keeps_need_step (Ast-F.Call x es) = true
+keeps_need_step (Ast-F.Negate at a) = true
+keeps_need_step (Ast-F.Binary o a b) = true
+keeps_need_step (Ast-F.Group at a) = false
+keeps_need_step (Ast-F.If at p a b) = false
+keeps_need_step (Ast-F.Let at x a b) = false
 
--- no bracket, IF or LET, which hand the need on to what is in them
-abbrev pub IsWhole : Ast → Type 0
-IsWhole a = fold-Ast Bool whole_step a ≡ true
+-- the tree keeps the need to itself: it is no bracket, IF or LET, which hand the need on to what is in them
+abbrev pub KeepsNeed : Ast → Type 0
+KeepsNeed a = fold-Ast Bool keeps_need_step a ≡ true
 
 -- the side of a comparison that is typed first, and the other one
 abbrev pub earlier : Ast → Ast → Ast
@@ -63,7 +64,7 @@ abbrev pub IsMiscalled : Scope → Name → List Ast → Type 0
 IsMiscalled scope x args = (m : Meaning) (needs : List (Option Ty)) → called scope x.text ≡ Some (m, needs) → length args ≢ length needs
 
 mutual
-  -- The offence stands in the tree, needed at a type or at none. The place `at` is that of the whole: the first token of the tree, or of the brackets around it.
+  -- The offence stands in the tree, needed at a type or at none. The offset `at` is that of the first token of the tree, or of the outermost brackets around it.
   pub data OffendsAt : ℕ → Scope → Option Ty → Ast → Offence → Type 0 where
     -- a name, alone or called, without a meaning there
     unknown_name : {at : ℕ} {scope : Scope} {want : Option Ty} {x : Name} → meaning scope x.text ≡ None
@@ -75,9 +76,9 @@ mutual
         → called scope x.text ≡ Some (m, needs) → length args ≢ length needs
         → OffendsAt at scope want (tree.Call x args) (arity x.at)
     -- nothing offends inside, and the type is another than the needed one
-    other_type : {at : ℕ} {scope : Scope} (a : Ast) {e : Expr} {s t : Ty} → IsWhole a → Elaborates scope None a e s → (Fits scope t s → ⊥)
+    other_type : {at : ℕ} {scope : Scope} (a : Ast) {e : Expr} {s t : Ty} → KeepsNeed a → Elaborates scope None a e s → (Fits scope t s → ⊥)
         → OffendsAt at scope (Some t) a (mismatch at)
-    -- fromString where no type is needed
+    -- fromString if no type is needed
     from_nowhere : {at : ℕ} {scope : Scope} {x : Name} (args : List Ast) {needs : List (Option Ty)} {es : List Expr}
         → called scope x.text ≡ Some (named_from_string, needs) → ElaboratesEach scope needs args es
         → OffendsAt at scope None (tree.Call x args) (mismatch at)
@@ -100,7 +101,7 @@ mutual
         → Offends scope None (earlier a b) o → OffendsAt at scope want (tree.Binary p a b) o
     later_side : {at : ℕ} {scope : Scope} {want : Option Ty} {p : Op} (a b : Ast) {o : Offence} {s : Ty} {make : Expr → Expr → Expr} → Comparison p make
         → Shows scope (earlier a b) s → Offends scope (Some s) (later a b) o → OffendsAt at scope want (tree.Binary p a b) o
-    -- what is in brackets: its place is that of the brackets
+    -- what is in brackets: its offset is that of the brackets
     grouped : {at : ℕ} {scope : Scope} {want : Option Ty} {bracket : ℕ} (a : Ast) {o : Offence}
         → OffendsAt at scope want a o → OffendsAt at scope want (tree.Group bracket a) o
     condition : {at : ℕ} {scope : Scope} {want : Option Ty} {i : ℕ} (p a b : Ast) {o : Offence}
@@ -109,7 +110,7 @@ mutual
         → Offends scope want a o → OffendsAt at scope want (tree.If i p a b) o
     else_branch : {at : ℕ} {scope : Scope} {t : Ty} {i : ℕ} (p a b : Ast) {o : Offence}
         → Offends scope (Some t) b o → OffendsAt at scope (Some t) (tree.If i p a b) o
-    -- where no type is needed, ELSE is needed at the type of THEN
+    -- if no type is needed, ELSE is needed at the type of THEN
     else_like_then : {at : ℕ} {scope : Scope} {s : Ty} {i : ℕ} (p a b : Ast) {o : Offence}
         → Shows scope a s → Offends scope (Some s) b o → OffendsAt at scope None (tree.If i p a b) o
     bound_value : {at : ℕ} {scope : Scope} {want : Option Ty} {l : ℕ} {x : Name} (a b : Ast) {o : Offence}
@@ -117,9 +118,9 @@ mutual
     body : {at : ℕ} {scope : Scope} {want : Option Ty} {l : ℕ} {x : Name} (a b : Ast) {o : Offence} {s : Ty}
         → Shows scope a s → Offends (inside scope x.text s) want b o → OffendsAt at scope want (tree.Let l x a b) o
 
-  -- the offence stands in the tree, whose place is that of its first token
+  -- the offence stands in the tree, whose offset is that of its first token
   pub data Offends : Scope → Option Ty → Ast → Offence → Type 0 where
-    stands : {at : ℕ} {scope : Scope} {want : Option Ty} {a : Ast} {o : Offence} → first a ≡ at → OffendsAt at scope want a o → Offends scope want a o
+    stands : {at : ℕ} {scope : Scope} {want : Option Ty} {a : Ast} {o : Offence} → start a ≡ at → OffendsAt at scope want a o → Offends scope want a o
 
   -- the type that a tree has by itself; one with an offence inside fits everywhere
   pub data Shows : Scope → Ast → Ty → Type 0 where

@@ -1,8 +1,8 @@
 ghost use Rattle.std.specs.Prelude.{◌≡◌, IfOk, OnOk};
 ghost use Rattle.txs_syntax.specs.declared.file.Def.TheVariants as def;
 ghost use Rattle.txs_types.specs.Files as files;
-ghost use Rattle.txs_types.specs.Among.{IsOfFile};
-ghost use Rattle.txs_types.specs.Collected.{FunctionIn, FunctionsFound, ConstantIn, ConstantsFound, IsAdded};
+ghost use Rattle.txs_types.specs.inner.Among.{IsOfFile};
+ghost use Rattle.txs_types.specs.inner.Collected.{FunctionIn, FunctionsCollected, ConstantIn, ConstantsCollected, IsAdded};
 
 use crate::declarations::{type_of, variables_of};
 use crate::expression::expression;
@@ -21,12 +21,12 @@ use txs_values::NoMemory;
 
 /// The functions, or the constants, so far, and the fault that decides in the others.
 #[derive(Debug, Drop)]
-pub struct Found<T> {
+pub struct Collected<T> {
     pub list: Items<T>,
     pub fault: Option<TypeFault>,
 }
 
-impl<T: Drop> Found<T> {
+impl<T: Drop> Collected<T> {
     fn add(&mut self, judged: Result<Items<T>, TypeFault>) -> Result<(), NoMemory>
         ensures { OnOk result (IsAdded self.old judged self.new) }
     {
@@ -98,13 +98,13 @@ pub fn functions_of(
     scope: &mut Scope,
     types: &[Name],
     file: &File,
-) -> Result<Found<FunctionDef>, NoMemory>
+) -> Result<Collected<FunctionDef>, NoMemory>
     requires types { types.now ≡ files.type_names file.now.defs }
     requires scope { IsOfFile file.now scope.old }
-    ensures found { IfOk result (λ s. FunctionsFound file.now file.now.defs s) }
+    ensures collected { IfOk result (λ s. FunctionsCollected file.now file.now.defs s) }
     ensures scope { IsOfFile file.now scope.new }
 {
-    let mut functions = Found {
+    let mut functions = Collected {
         list: Items::new(alloc),
         fault: None,
     };
@@ -166,13 +166,13 @@ pub fn constants_of(
     scope: &mut Scope,
     types: &[Name],
     file: &File,
-) -> Result<Found<ConstantDef>, NoMemory>
+) -> Result<Collected<ConstantDef>, NoMemory>
     requires types { types.now ≡ files.type_names file.now.defs }
     requires scope { IsOfFile file.now scope.old }
-    ensures found { IfOk result (λ s. ConstantsFound file.now file.now.defs s) }
+    ensures collected { IfOk result (λ s. ConstantsCollected file.now file.now.defs s) }
     ensures scope { IsOfFile file.now scope.new }
 {
-    let mut constants = Found {
+    let mut constants = Collected {
         list: Items::new(alloc),
         fault: None,
     };

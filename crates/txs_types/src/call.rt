@@ -7,22 +7,23 @@ ghost use Rattle.txs_terms.specs.View.{expr_of, exprs_of, unary_of};
 ghost use Rattle.txs_types.specs.declared.fault.TypeFault.TheVariants as fault;
 ghost use Rattle.txs_types.specs.Names as names;
 ghost use Rattle.txs_types.specs.Elaborates.{Makes};
-ghost use Rattle.txs_types.specs.View.{scope_of, want_of, wants_of, meaning_of, called_of};
-ghost use Rattle.txs_types.specs.Parts as parts;
-ghost use Rattle.txs_types.specs.Parts.{Applies, CallsWith, Gathers};
+ghost use Rattle.txs_types.specs.inner.View.{scope_of, wants_of, meaning_of, called_of};
+ghost use Rattle.txs_types.specs.Answer.{want_of};
+ghost use Rattle.txs_types.specs.inner.Parts as parts;
+ghost use Rattle.txs_types.specs.inner.Parts.{Applies, CallsWith, Gathers};
 
 use crate::fault::{TypeFault, lesser};
+use crate::fitting::fitted;
 use crate::meaning::Meaning;
 use crate::scope::{Called, Scope};
 use crate::typed::Typed;
-use crate::whole::whole;
 use sqlite_items::{Boxed, Items};
 use std::alloc::Global;
 use txs_syntax::Ast;
 use txs_terms::{Binary, Expr, Exprs, Unary};
 use txs_values::{NoMemory, Ty, Value};
 
-/// The type of a call, where this one or none is needed.
+/// The type of a call, if this one or none is needed.
 pub fn call_type(means: Meaning, want: Option<Ty>) -> Option<Ty>
     ensures { (ts : List TheType) → want_of result ≡ parts.call_type (meaning_of means ts) (want_of want) }
 {
@@ -125,7 +126,7 @@ pub fn called_with(
         Ok(args) => match call_type(called.means, want) {
             Some(ty) => {
                 let made = applied(alloc, called, ty, args);
-                whole(scope, want, at, made, ty)
+                fitted(scope, want, at, made, ty)
             }
             None => Err(TypeFault::Mismatch { at }),
         },

@@ -1,9 +1,10 @@
-ghost use Rattle.std.specs.Prelude.{◌≡◌, ◌++◌, ◌∷◌, [], IfOk, OnOk, map};
+ghost use Rattle.std.specs.Prelude.{◌≡◌, ◌++◌, ◌∷◌, [], IfOk, IfSome, OnOk, map};
 ghost use Rattle.txs_values.specs.View.{ty_of};
 ghost use Rattle.txs_values.specs.TableView.{field_of};
+ghost use Rattle.txs_types.specs.declared.fault.TypeFault.TheVariants as fault;
 ghost use Rattle.txs_types.specs.Files as files;
-ghost use Rattle.txs_types.specs.Told.{Finds};
-ghost use Rattle.txs_types.specs.Among.{AnyUndefined};
+ghost use Rattle.txs_types.specs.inner.Told.{Finds};
+ghost use Rattle.txs_types.specs.inner.Among.{AnyUndefined};
 
 use crate::fault::TypeFault;
 use crate::least::least;
@@ -13,7 +14,7 @@ use std::alloc::Global;
 use txs_syntax::{DeclList, Name};
 use txs_values::{FieldDef, FieldDefs, NoMemory, Text, Ty};
 
-/// The number of the type of this name; where there is none, the number behind the last.
+/// The number of the type of this name; if there is none, the number after the last.
 fn type_number(types: &[Name], name: &Text) -> usize
     ensures { result ≡ files.type_number name.now 0 types.now }
 {
@@ -25,7 +26,7 @@ fn type_number(types: &[Name], name: &Text) -> usize
     types.len()
 }
 
-/// The type of this name, where a file defines types of these names; of a name without a definition it is a type that is none of the file's.
+/// The type of this name, if a file defines types of these names; of a name without a definition it is a type that is none of the file's.
 pub fn type_of(types: &[Name], name: &Text) -> Result<Ty, NoMemory>
     ensures { IfOk result (λ t. ty_of t ≡ files.type_of types.now name.now) }
 {
@@ -37,7 +38,7 @@ pub fn type_of(types: &[Name], name: &Text) -> Result<Ty, NoMemory>
     }
 }
 
-/// Puts variables of one type behind the others.
+/// Puts variables of one type after the others.
 fn add_each(
     alloc: Global,
     variables: &mut FieldDefs,
@@ -68,7 +69,7 @@ pub fn variables_of(alloc: Global, types: &[Name], list: &DeclList) -> Result<Fi
     Ok(variables)
 }
 
-/// The same name, at the same place.
+/// The same name, at the same offset.
 pub fn copy_name(alloc: Global, name: &Name) -> Result<Name, NoMemory>
     ensures { IfOk result (λ n. n ≡ name.now) }
 {
@@ -78,7 +79,7 @@ pub fn copy_name(alloc: Global, name: &Name) -> Result<Name, NoMemory>
     })
 }
 
-/// Puts names behind the others.
+/// Puts names after the others.
 fn add_names(alloc: Global, list: &mut Items<Name>, names: &[Name]) -> Result<(), NoMemory>
     ensures { OnOk result (list.new ≡ list.old ++ names.now) }
 {
@@ -123,16 +124,17 @@ fn is_built_in(name: &Text) -> bool
     }
 }
 
-/// Whether a type name has no definition, where a file defines types of these names.
+/// Whether a type name has no definition, if a file defines types of these names.
 pub fn is_undefined(types: &[Name], name: &Name) -> bool
     ensures { result ≡ files.is_undefined types.now name.now }
 {
     !is_built_in(&name.text) && !is_named(types, &name.text)
 }
 
-/// The type name, where it has no definition.
+/// The fault of the type name, if it has no definition.
 pub fn undefined_name(types: &[Name], name: &Name) -> Option<TypeFault>
-    ensures { Finds result (AnyUndefined types.now (name.now ∷ [])) }
+    ensures told { Finds result (AnyUndefined types.now (name.now ∷ [])) }
+    ensures unknown { IfSome result (λ f. f ≡ fault.Unknown name.now.at) }
 {
     if is_undefined(types, name) {
         Some(TypeFault::Unknown { at: name.at })
@@ -141,7 +143,7 @@ pub fn undefined_name(types: &[Name], name: &Name) -> Option<TypeFault>
     }
 }
 
-/// Of the type names without a definition, among the types of declarations, the one of least place.
+/// Of the type names without a definition, among the types of declarations, the fault of the one of least offset.
 pub fn undefined(types: &[Name], list: &DeclList) -> Option<TypeFault>
     ensures { Finds result (AnyUndefined types.now (files.types_used list.now.decls)) }
 {

@@ -1,27 +1,27 @@
 ghost use Rattle.std.specs.Prelude.{◌≡◌, ◌⊎◌, ℕ, MatchResult, Some, length};
 ghost use Rattle.txs_values.specs.View.{ty_of};
 ghost use Rattle.txs_syntax.specs.declared.ast.Ast.TheVariants as tree;
-ghost use Rattle.txs_types.specs.Answer.{Told};
+ghost use Rattle.txs_types.specs.Answer.{Told, want_of};
 ghost use Rattle.txs_types.specs.Offends.{Offends, earlier, later};
-ghost use Rattle.txs_types.specs.View.{scope_of, want_of, wants_of, Judges, JudgesAt};
-ghost use Rattle.txs_types.specs.Parts.{Typed as TheTyped, Means, Tells, Sides, InOrder, OffendInOrder, JudgesEach, Strays};
+ghost use Rattle.txs_types.specs.inner.View.{scope_of, wants_of, Judges, JudgesAt};
+ghost use Rattle.txs_types.specs.inner.Parts.{Typed as TheTyped, Means, Tells, Sides, InOrder, OffendInOrder, JudgesEach, Strays};
 
 use crate::call::{called_with, gathered, stray_needs, strayed};
 use crate::fault::TypeFault;
+use crate::fitting::{fitted, shown, start};
 use crate::joined::{joined, turned};
 use crate::leaf::{named, number, quoted};
 use crate::node::{bound, chosen, negated, operated};
 use crate::operator::{operand, outcome, right_first};
 use crate::scope::Scope;
 use crate::typed::Typed;
-use crate::whole::{first, shown, whole};
 use sqlite_items::{Boxed, Items};
 use std::alloc::Global;
 use txs_syntax::{Ast, Name, Op};
 use txs_terms::Exprs;
 use txs_values::Ty;
 
-/// The expression that a tree means where a type is needed, or none, or the offence in it that decides.
+/// The expression that a tree means if a type is needed, or none, or the offence in it that decides.
 #[cycle(expression)]
 pub fn expression(
     alloc: Global,
@@ -32,10 +32,10 @@ pub fn expression(
     ensures judged { Judges (scope_of scope.old) (want_of want) tree.now result }
     ensures kept { scope.new ≡ scope.old }
 {
-    judge(alloc, scope, want, first(tree), tree)
+    judge(alloc, scope, want, start(tree), tree)
 }
 
-/// The same where the whole stands at this place: that of the tree, or of the brackets around it.
+/// The same, if a mismatch is told at this offset: that of the tree, or of the brackets around it.
 #[cycle(expression)]
 fn judge(
     alloc: Global,
@@ -150,11 +150,11 @@ fn negation(
     at: usize,
     operand: &Boxed<Ast>,
 ) -> Result<Typed, TypeFault>
-    ensures judged { (place : ℕ) → JudgesAt at (scope_of scope.old) (want_of want) (tree.Negate place operand.now) result }
+    ensures judged { (offset : ℕ) → JudgesAt at (scope_of scope.old) (want_of want) (tree.Negate offset operand.now) result }
     ensures kept { scope.new ≡ scope.old }
 {
     let found = expression(alloc, scope, Some(Ty::Int), operand.get());
-    whole(scope, want, at, negated(alloc, found), Ty::Int)
+    fitted(scope, want, at, negated(alloc, found), Ty::Int)
 }
 
 /// An operator with a side on each side.
@@ -174,11 +174,11 @@ fn operation(
     match operand(op) {
         Some(need) => {
             let found = both(alloc, scope, need, left, right);
-            whole(scope, want, at, operated(alloc, op, found), outcome(op))
+            fitted(scope, want, at, operated(alloc, op, found), outcome(op))
         }
         None => {
             let found = compared(alloc, scope, left, right);
-            whole(scope, want, at, operated(alloc, op, found), outcome(op))
+            fitted(scope, want, at, operated(alloc, op, found), outcome(op))
         }
     }
 }
@@ -248,7 +248,7 @@ fn choice(
     yes: &Boxed<Ast>,
     no: &Boxed<Ast>,
 ) -> Result<Typed, TypeFault>
-    ensures judged { (at place : ℕ) → JudgesAt at (scope_of scope.old) (want_of want) (tree.If place condition.now yes.now no.now) result }
+    ensures judged { (at offset : ℕ) → JudgesAt at (scope_of scope.old) (want_of want) (tree.If offset condition.now yes.now no.now) result }
     ensures kept { scope.new ≡ scope.old }
 {
     let c = expression(alloc, scope, Some(Ty::Bool), condition.get());
@@ -274,7 +274,7 @@ fn binding(
     value: &Boxed<Ast>,
     body: &Boxed<Ast>,
 ) -> Result<Typed, TypeFault>
-    ensures judged { (at place : ℕ) → JudgesAt at (scope_of scope.old) (want_of want) (tree.Let place name.now value.now body.now) result }
+    ensures judged { (at offset : ℕ) → JudgesAt at (scope_of scope.old) (want_of want) (tree.Let offset name.now value.now body.now) result }
     ensures kept { scope.new ≡ scope.old }
 {
     let a = expression(alloc, scope, None, value.get());

@@ -1,6 +1,6 @@
 ghost use Rattle.std.specs.Prelude.{◌≡◌, ◌↔◌, IsTrue};
 ghost use Rattle.txs_types.specs.declared.fault.TypeFault.TheVariants as fault;
-ghost use Rattle.txs_types.specs.Told.{Lesser, IsBefore, order};
+ghost use Rattle.txs_types.specs.inner.Told.{Lesser, IsBefore, order};
 
 use std::alloc::{AllocError, AllocFailed};
 use thiserror::Error;
@@ -49,7 +49,7 @@ impl<T: Drop> From<AllocFailed<T>> for TypeFault {
     }
 }
 
-/// The place and the rank among the faults at one place; want of memory has none.
+/// The offset and the rank among the faults at one offset; want of memory has none.
 fn order(fault: TypeFault) -> Option<(usize, u8)>
     ensures { result ≡ order fault }
 {
@@ -64,7 +64,7 @@ fn order(fault: TypeFault) -> Option<(usize, u8)>
     }
 }
 
-/// Whether the first of two places, each with a rank, goes before the second.
+/// Whether the first of two offsets, each with a rank, goes before the second.
 fn is_before(a: (usize, u8), b: (usize, u8)) -> bool
     ensures { IsTrue result ↔ IsBefore a b }
 {

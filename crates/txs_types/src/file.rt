@@ -1,12 +1,11 @@
 ghost use Rattle.std.specs.Prelude.{◌≡◌, IfOk, IfErr};
 ghost use Rattle.txs_terms.specs.View.{definitions_of};
 ghost use Rattle.txs_types.specs.Files as files;
-ghost use Rattle.txs_types.specs.Files.{FileOffends, IsMeant};
-ghost use Rattle.txs_types.specs.Laws.{FileHasNames};
+ghost use Rattle.txs_types.specs.Files.{FileOffends, IsMeant, FileHasNames};
 ghost use Rattle.txs_types.specs.Offends.{Offence};
 ghost use Rattle.txs_types.specs.Answer.{Told, AreSafe};
-ghost use Rattle.txs_types.specs.Told.{Finds};
-ghost use Rattle.txs_types.specs.Among.{InNames, OutsideBodies};
+ghost use Rattle.txs_types.specs.inner.Told.{Finds};
+ghost use Rattle.txs_types.specs.inner.Among.{InNames, OutsideBodies};
 
 use crate::bodies::{constants_of, functions_of, scope_of_file};
 use crate::definitions::type_names;
@@ -47,7 +46,7 @@ fn fault_outside_bodies(
     Ok(least(in_names, in_defaults))
 }
 
-/// The types, functions and constants that a file defines, or the offence that decides. Want of memory is answered too where no number, below 2^32, is left for a name.
+/// The types, functions and constants that a file defines, or the offence that decides. Want of memory is answered too if no number, below 2^32, is left for a name.
 pub fn type_defs(alloc: Global, file: &File) -> Result<Defs, TypeFault>
     requires names { FileHasNames file.now }
     ensures meant { IfOk result (λ d. IsMeant file.now (definitions_of d)) }

@@ -3,14 +3,14 @@ ghost use Rattle.txs_values.specs.Value.{field_types};
 ghost use Rattle.txs_types.specs.Names as names;
 ghost use Rattle.txs_types.specs.Names.{named_function, named_constant};
 ghost use Rattle.txs_types.specs.Files as files;
-ghost use Rattle.txs_types.specs.View.{globals_of};
-ghost use Rattle.txs_types.specs.Counted.{counts_after, globals_from};
+ghost use Rattle.txs_types.specs.inner.View.{globals_of};
+ghost use Rattle.txs_types.specs.inner.Counted.{counts_after, globals_from};
 
 use crate::declarations::{type_of, variables_of};
 use crate::file_types::constructors_of;
 use crate::global_names::{add_constructors, add_name, types_of};
 use crate::meaning::{GlobalName, Meaning};
-use crate::numbers::{number_of, place_behind};
+use crate::numbers::{number_of, place_after};
 use sqlite_items::Items;
 use std::alloc::Global;
 use txs_syntax::{ConDef, DeclList, Def, Name};
@@ -25,33 +25,33 @@ struct Counts {
     constants: usize,
 }
 
-/// How many stand behind a definition, where so many stand before it.
+/// How many stand after a definition, if so many stand before it.
 fn counts_after(counts: Counts, def: &Def) -> Result<Counts, NoMemory>
     ensures { IfOk result (λ c. c ≡ counts_after counts def.now) }
 {
     match def {
         Def::TypeDef { constructors, .. } => Ok(Counts {
-            types: place_behind(counts.types, 1)?,
-            constructors: place_behind(counts.constructors, constructors.len())?,
+            types: place_after(counts.types, 1)?,
+            constructors: place_after(counts.constructors, constructors.len())?,
             functions: counts.functions,
             constants: counts.constants,
         }),
         Def::FuncDef { .. } => Ok(Counts {
             types: counts.types,
             constructors: counts.constructors,
-            functions: place_behind(counts.functions, 1)?,
+            functions: place_after(counts.functions, 1)?,
             constants: counts.constants,
         }),
         Def::ConstDef { .. } => Ok(Counts {
             types: counts.types,
             constructors: counts.constructors,
             functions: counts.functions,
-            constants: place_behind(counts.constants, 1)?,
+            constants: place_after(counts.constants, 1)?,
         }),
     }
 }
 
-/// Puts the names of the constructors of a type behind the others.
+/// Puts the names of the constructors of a type after the others.
 fn add_type(
     alloc: Global,
     list: &mut Items<GlobalName>,
@@ -67,7 +67,7 @@ fn add_type(
     add_constructors(alloc, list, counts.constructors, of, made.as_slice())
 }
 
-/// Puts the name of the function of this number behind the others.
+/// Puts the name of the function of this number after the others.
 fn add_function(
     alloc: Global,
     list: &mut Items<GlobalName>,
@@ -90,7 +90,7 @@ fn add_function(
     add_name(list, text, Meaning::Function { number, gives }, takes)
 }
 
-/// Puts the name of the constant of this number behind the others.
+/// Puts the name of the constant of this number after the others.
 fn add_constant(
     alloc: Global,
     list: &mut Items<GlobalName>,
@@ -115,7 +115,7 @@ fn add_constant(
     )
 }
 
-/// Puts the names that a definition defines behind the others, where so many stand before it.
+/// Puts the names that a definition defines after the others, if so many stand before it.
 fn add_definition(
     alloc: Global,
     list: &mut Items<GlobalName>,
@@ -141,8 +141,8 @@ fn add_definition(
     }
 }
 
-/// Puts the names that a file's definitions define behind the others, in order, where the file defines types of these names.
-#[tactic(auto, using(crate::proofs::Collecting::split_globals))]
+/// Puts the names that a file's definitions define after the others, in order, if the file defines types of these names.
+#[tactic(auto, using(crate::proofs::lists::Collecting::split_globals))]
 pub fn add_definitions(
     alloc: Global,
     list: &mut Items<GlobalName>,

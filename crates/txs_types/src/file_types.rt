@@ -17,7 +17,7 @@ fn constructor_of(alloc: Global, types: &[Name], con: &ConDef) -> Result<ConsDef
     })
 }
 
-/// The constructors of a type, where a file defines types of these names.
+/// The constructors of a type, if a file defines types of these names.
 pub fn constructors_of(alloc: Global, types: &[Name], cons: &[ConDef]) -> Result<ConsDefs, NoMemory>
     ensures { IfOk result (λ cs. conses_of cs ≡ files.constructors_of types.now cons.now) }
 {
@@ -117,7 +117,7 @@ fn add_excused(
     }
 }
 
-/// The types, where one with a field of an unknown type is given a constructor without fields instead.
+/// The types, but that one with a field of an unknown type is given a constructor without fields instead.
 pub fn excused(alloc: Global, types: &[Name], defs: &[Def]) -> Result<TypeTable, NoMemory>
     ensures { IfOk result (λ t. t ≡ files.excused types.now defs.now) }
 {

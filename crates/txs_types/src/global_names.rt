@@ -3,7 +3,7 @@ ghost use Rattle.txs_values.specs.View.{ty_of};
 ghost use Rattle.txs_values.specs.TableView.{field_of, cons_of, conses_of};
 ghost use Rattle.txs_values.specs.Value.{field_types};
 ghost use Rattle.txs_types.specs.Names as names;
-ghost use Rattle.txs_types.specs.View.{meaning_of, globals_of};
+ghost use Rattle.txs_types.specs.inner.View.{meaning_of, globals_of};
 
 use crate::meaning::{GlobalName, Meaning};
 use crate::numbers::number_of;
@@ -11,7 +11,7 @@ use sqlite_items::Items;
 use std::alloc::Global;
 use txs_values::{ConsDef, FieldDef, NoMemory, Text, Types};
 
-/// Puts a name behind the others.
+/// Puts a name after the others.
 pub fn add_name(
     list: &mut Items<GlobalName>,
     name: Text,
@@ -24,7 +24,7 @@ pub fn add_name(
     Ok(())
 }
 
-/// Puts a name of the language behind the others.
+/// Puts a name of the language after the others.
 fn add_built_in(
     alloc: Global,
     list: &mut Items<GlobalName>,
@@ -82,7 +82,7 @@ pub fn test_name(alloc: Global, name: &Text) -> Result<Text, NoMemory>
     Ok(Text::from_string(test))
 }
 
-/// Puts the selectors of a constructor of type `of` behind the other names.
+/// Puts the selectors of a constructor of type `of` after the other names.
 fn add_selectors(
     alloc: Global,
     list: &mut Items<GlobalName>,
@@ -105,7 +105,7 @@ fn add_selectors(
     Ok(())
 }
 
-/// Puts the names of a constructor of type `of` behind the others: its own, that of its test, and those of its selectors.
+/// Puts the names of a constructor of type `of` after the others: its own, that of its test, and those of its selectors.
 fn add_constructor(
     alloc: Global,
     list: &mut Items<GlobalName>,
@@ -127,7 +127,7 @@ fn add_constructor(
     add_selectors(alloc, list, number, of, cons.fields.as_slice())
 }
 
-/// Puts the names of the constructors of type `of` behind the others; the first constructor has the number `first`.
+/// Puts the names of the constructors of type `of` after the others; the first constructor has the number `first`.
 pub fn add_constructors(
     alloc: Global,
     list: &mut Items<GlobalName>,

@@ -1,5 +1,5 @@
-ghost use Rattle.txs_types.specs.Told.{Joined};
-ghost use Rattle.txs_types.specs.Parts as parts;
+ghost use Rattle.txs_types.specs.inner.Told.{Joined};
+ghost use Rattle.txs_types.specs.inner.Parts as parts;
 
 use crate::fault::{TypeFault, lesser};
 use crate::typed::Typed;

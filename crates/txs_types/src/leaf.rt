@@ -3,12 +3,13 @@ ghost use Rattle.txs_values.specs.Value.{num};
 ghost use Rattle.txs_terms.specs.Expr as of;
 ghost use Rattle.txs_terms.specs.View.{expr_of};
 ghost use Rattle.txs_syntax.specs.declared.ast.Ast.TheVariants as tree;
-ghost use Rattle.txs_types.specs.View.{scope_of, want_of, JudgesAt};
+ghost use Rattle.txs_types.specs.inner.View.{scope_of, JudgesAt};
+ghost use Rattle.txs_types.specs.Answer.{want_of};
 
 use crate::fault::TypeFault;
+use crate::fitting::fitted;
 use crate::scope::Scope;
 use crate::typed::Typed;
-use crate::whole::whole;
 use std::alloc::Global;
 use txs_syntax::Name;
 use txs_terms::Expr;
@@ -21,9 +22,9 @@ fn int(value: i128) -> Expr
 }
 
 pub fn number(scope: &Scope, want: Option<Ty>, at: usize, value: i128) -> Result<Typed, TypeFault>
-    ensures { (place : ℕ) → JudgesAt at (scope_of scope.now) (want_of want) (tree.Number place value) result }
+    ensures { (offset : ℕ) → JudgesAt at (scope_of scope.now) (want_of want) (tree.Number offset value) result }
 {
-    whole(scope, want, at, Ok(int(value)), Ty::Int)
+    fitted(scope, want, at, Ok(int(value)), Ty::Int)
 }
 
 pub fn quoted(
@@ -33,10 +34,10 @@ pub fn quoted(
     at: usize,
     text: &Text,
 ) -> Result<Typed, TypeFault>
-    ensures { (place : ℕ) → JudgesAt at (scope_of scope.now) (want_of want) (tree.Text place text.now) result }
+    ensures { (offset : ℕ) → JudgesAt at (scope_of scope.now) (want_of want) (tree.Text offset text.now) result }
 {
     match text.copy(alloc) {
-        Ok(text) => whole(
+        Ok(text) => fitted(
             scope,
             want,
             at,
@@ -57,7 +58,7 @@ pub fn named(
     ensures { JudgesAt at (scope_of scope.now) (want_of want) (tree.Name name.now) result }
 {
     match scope.meaning(alloc, &name.text) {
-        Ok(Some(typed)) => whole(scope, want, at, Ok(typed.expr), typed.ty),
+        Ok(Some(typed)) => fitted(scope, want, at, Ok(typed.expr), typed.ty),
         Ok(None) => Err(TypeFault::Unknown { at: name.at }),
         Err(_) => Err(TypeFault::NoMemory),
     }

@@ -1,8 +1,8 @@
-ghost use Rattle.txs_types.specs.Told.{Least};
+ghost use Rattle.txs_types.specs.inner.Told.{Least};
 
 use crate::fault::{TypeFault, lesser};
 
-/// That of two faults which decides, where there are any.
+/// That of two faults which decides, if there are any.
 pub fn least(a: Option<TypeFault>, b: Option<TypeFault>) -> Option<TypeFault>
     ensures { Least a b result }
 {

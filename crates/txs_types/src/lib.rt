@@ -10,6 +10,7 @@ mod fault;
 mod file;
 mod file_names;
 mod file_types;
+mod fitting;
 mod global_names;
 mod joined;
 mod leaf;
@@ -24,7 +25,6 @@ mod query;
 mod scope;
 mod table_names;
 mod typed;
-mod whole;
 
 pub use fault::TypeFault;
 pub use file::type_defs;

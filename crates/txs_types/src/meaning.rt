@@ -1,6 +1,6 @@
 ghost use Rattle.std.specs.Prelude.{◌≡◌, MatchOption, None, Some};
 ghost use Rattle.txs_types.specs.Names as names;
-ghost use Rattle.txs_types.specs.View.{global_of, globals_of};
+ghost use Rattle.txs_types.specs.inner.View.{global_of, globals_of};
 
 use sqlite_items::Items;
 use txs_values::{Text, Ty, Types};

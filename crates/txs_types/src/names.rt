@@ -2,8 +2,8 @@ ghost use Rattle.std.specs.Prelude.{◌≡◌, IfOk, OnOk, ℕ, List, MatchBool,
 ghost use Rattle.std.specs.BTreeSet.{contains_text};
 ghost use Rattle.txs_types.specs.declared.fault.TypeFault.TheVariants as fault;
 ghost use Rattle.txs_types.specs.Files.{is_among};
-ghost use Rattle.txs_types.specs.Told.{Finds};
-ghost use Rattle.txs_types.specs.Among.{IsTwice};
+ghost use Rattle.txs_types.specs.inner.Told.{Finds};
+ghost use Rattle.txs_types.specs.inner.Among.{IsTwice};
 
 use crate::fault::TypeFault;
 use crate::least::least;

@@ -2,9 +2,9 @@ ghost use Rattle.std.specs.Prelude.{◌≡◌, MatchResult};
 ghost use Rattle.txs_values.specs.View.{ty_of};
 ghost use Rattle.txs_terms.specs.Expr as of;
 ghost use Rattle.txs_terms.specs.View.{expr_of, binary_of};
-ghost use Rattle.txs_types.specs.View.{want_of};
-ghost use Rattle.txs_types.specs.Parts as parts;
-ghost use Rattle.txs_types.specs.Parts.{Typed as TheTyped, Made, MadeTyped};
+ghost use Rattle.txs_types.specs.Answer.{want_of};
+ghost use Rattle.txs_types.specs.inner.Parts as parts;
+ghost use Rattle.txs_types.specs.inner.Parts.{Typed as TheTyped, Made, MadeTyped};
 
 use crate::fault::TypeFault;
 use crate::typed::Typed;

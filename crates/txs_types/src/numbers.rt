@@ -2,7 +2,7 @@ ghost use Rattle.std.specs.Prelude.{◌≡◌, ◌+◌, IfOk};
 
 use txs_values::NoMemory;
 
-/// A place as a number. Want of memory is answered where it is not below 2^32.
+/// A place in a list as a number. Want of memory is answered if it is not below 2^32.
 pub fn number_of(place: usize) -> Result<u32, NoMemory>
     ensures { IfOk result (λ n. n ≡ place) }
 {
@@ -12,12 +12,12 @@ pub fn number_of(place: usize) -> Result<u32, NoMemory>
     }
 }
 
-/// The place behind so many more. Want of memory is answered where it is not below 2^64.
-pub fn place_behind(place: usize, many: usize) -> Result<usize, NoMemory>
+/// The place after so many more. Want of memory is answered if it is not below 2^64.
+pub fn place_after(place: usize, many: usize) -> Result<usize, NoMemory>
     ensures { IfOk result (λ p. p ≡ place + many) }
 {
     match place.checked_add(many) {
-        Some(behind) => Ok(behind),
+        Some(after) => Ok(after),
         None => Err(NoMemory),
     }
 }

@@ -3,8 +3,8 @@ ghost use Rattle.txs_values.specs.Value.{Table, named};
 ghost use Rattle.txs_values.specs.Default.{default_if};
 ghost use Rattle.txs_values.specs.Choices.{extent_of, extents_of};
 ghost use Rattle.txs_types.specs.Files as files;
-ghost use Rattle.txs_types.specs.Told.{Finds};
-ghost use Rattle.txs_types.specs.Among.{Among, AmongDefs, IsTwice, AnyUndefined, TwiceIn, UnknownIn, BadDefault};
+ghost use Rattle.txs_types.specs.inner.Told.{Finds};
+ghost use Rattle.txs_types.specs.inner.Among.{Among, AmongDefs, IsTwice, AnyUndefined, TwiceIn, UnknownIn, BadDefault};
 
 use crate::declarations::{names_in, undefined, undefined_name};
 use crate::definitions::defined_names;
@@ -29,7 +29,7 @@ fn built_in_types(alloc: Global) -> Result<Items<Text>, NoMemory>
     Ok(texts)
 }
 
-/// Of the names of types that are taken already, the fault of the one of least place.
+/// Of the names of types that are taken already, the fault of the one of least offset.
 pub fn twice_type(alloc: Global, types: &[Name]) -> Result<Option<TypeFault>, NoMemory>
     ensures { IfOk result (λ f. Finds f (IsTwice files.built_in_types types.now)) }
 {
@@ -44,7 +44,7 @@ fn built_in_names(alloc: Global) -> Result<Items<Text>, NoMemory>
     texts_of(alloc, globals.as_slice())
 }
 
-/// Of the names in expressions that are taken already, the fault of the one of least place.
+/// Of the names in expressions that are taken already, the fault of the one of least offset.
 pub fn twice_name(alloc: Global, defs: &[Def]) -> Result<Option<TypeFault>, NoMemory>
     ensures { IfOk result (λ f. Finds f (IsTwice files.built_in_names (files.defined_names defs.now))) }
 {
@@ -70,7 +70,7 @@ fn twice_in(alloc: Global, def: &Def) -> Result<Option<TypeFault>, NoMemory>
     }
 }
 
-/// Of the parameters whose names are taken already, the fault of the one of least place.
+/// Of the parameters whose names are taken already, the fault of the one of least offset.
 pub fn twice_parameter(alloc: Global, defs: &[Def]) -> Result<Option<TypeFault>, NoMemory>
     ensures { IfOk result (λ f. Finds f (AmongDefs TwiceIn defs.now)) }
 {
@@ -103,7 +103,7 @@ fn unknown_in(types: &[Name], def: &Def) -> Option<TypeFault>
     }
 }
 
-/// Of the type names without a definition, the fault of the one of least place.
+/// Of the type names without a definition, the fault of the one of least offset.
 pub fn unknown_type(types: &[Name], defs: &[Def]) -> Option<TypeFault>
     ensures { Finds result (AmongDefs (UnknownIn types.now) defs.now) }
 {
@@ -145,7 +145,7 @@ fn bad_default(extent: Option<Extent>, name: &Name) -> Option<TypeFault>
     }
 }
 
-/// Of the types without a default, or with too large or high a one, the fault of the one of least place.
+/// Of the types without a default, or with too large or high a one, the fault of the one of least offset.
 pub fn bad_type(
     alloc: Global,
     table: &TypeTable,

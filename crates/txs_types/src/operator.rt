@@ -1,8 +1,8 @@
 ghost use Rattle.std.specs.Prelude.{◌≡◌};
 ghost use Rattle.txs_values.specs.View.{ty_of};
 ghost use Rattle.txs_types.specs.Elaborates as elaborates;
-ghost use Rattle.txs_types.specs.View.{want_of};
-ghost use Rattle.txs_types.specs.Parts as parts;
+ghost use Rattle.txs_types.specs.Answer.{want_of};
+ghost use Rattle.txs_types.specs.inner.Parts as parts;
 
 use txs_syntax::{Ast, Op};
 use txs_values::Ty;

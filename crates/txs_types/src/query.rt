@@ -3,14 +3,13 @@ ghost use Rattle.txs_values.specs.Value.{Ty as TheType};
 ghost use Rattle.txs_terms.specs.Typed.{Of};
 ghost use Rattle.txs_terms.specs.Defs.{signatures_of};
 ghost use Rattle.txs_terms.specs.View.{definitions_of, expr_of};
-ghost use Rattle.txs_types.specs.Files.{query_scope, QueryMeans, QueryOffends, declared_types, names_of};
-ghost use Rattle.txs_types.specs.Laws.{IsNeed};
+ghost use Rattle.txs_types.specs.Files.{query_scope, QueryMeans, QueryOffends, declared_types, names_of, IsNeed};
 ghost use Rattle.txs_types.specs.Offends.{Offence};
-ghost use Rattle.txs_types.specs.Answer.{Told, IsSafe};
-ghost use Rattle.txs_types.specs.Told.{Finds};
-ghost use Rattle.txs_types.specs.Queries.{InDeclarations, Decided};
+ghost use Rattle.txs_types.specs.Answer.{Told, IsSafe, want_of};
+ghost use Rattle.txs_types.specs.inner.Told.{Finds};
+ghost use Rattle.txs_types.specs.inner.Queries.{InDeclarations, Decided};
 ghost use Rattle.txs_values.specs.TableView.{table_of};
-ghost use Rattle.txs_types.specs.View.{want_of, scope_of};
+ghost use Rattle.txs_types.specs.inner.View.{scope_of};
 
 use crate::declarations::{names_in, undefined, variables_of};
 use crate::expression::expression;
@@ -27,7 +26,7 @@ use txs_syntax::{Ast, DeclList, Name};
 use txs_terms::{Defs, Expr};
 use txs_values::{NoMemory, Ty, TypeDef};
 
-/// The names of the types of a table. Of their places nothing is asked.
+/// The names of the types of a table. Of their offsets nothing is asked.
 fn names_of_table(alloc: Global, table: &[TypeDef]) -> Result<Items<Name>, NoMemory>
     ensures { IfOk result (λ ns. ns ≡ names_of (table_of table.now)) }
 {
@@ -39,7 +38,7 @@ fn names_of_table(alloc: Global, table: &[TypeDef]) -> Result<Items<Name>, NoMem
     Ok(types)
 }
 
-/// The fault in declarations that decides, where the types have these names.
+/// The fault in declarations that decides, if the types have these names.
 fn declaration_fault(
     alloc: Global,
     types: &[Name],
@@ -70,7 +69,7 @@ fn scope_over(
     })
 }
 
-/// The expression, or what decides where a fault was told before.
+/// The expression, or what decides if a fault was told before.
 fn decided(told: Option<TypeFault>, typed: Result<Typed, TypeFault>) -> Result<Expr, TypeFault>
     ensures { Decided told typed result }
 {
@@ -82,7 +81,7 @@ fn decided(told: Option<TypeFault>, typed: Result<Typed, TypeFault>) -> Result<E
     }
 }
 
-/// The expression that a tree means over definitions and declared variables, slot k of which is the variable k, where a type is needed, or none; or the offence that decides.
+/// The expression that a tree means over definitions and declared variables, slot k of which is the variable k, if a type is needed, or none; or the offence that decides.
 pub fn type_query(
     alloc: Global,
     defs: &Defs,

@@ -4,7 +4,7 @@ ghost use Rattle.txs_values.specs.TableView.{field_of};
 ghost use Rattle.txs_values.specs.declared.table.FieldDef as rust_field;
 ghost use Rattle.txs_terms.specs.Expr as of;
 ghost use Rattle.txs_types.specs.Names as names;
-ghost use Rattle.txs_types.specs.View.{scope_of, typed_of, wants_of, called_of, meaning_of, global_of};
+ghost use Rattle.txs_types.specs.inner.View.{scope_of, typed_of, wants_of, called_of, meaning_of, global_of};
 
 use crate::meaning::{GlobalName, GlobalNames, Meaning};
 use crate::numbers::number_of;

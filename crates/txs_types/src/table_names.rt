@@ -2,17 +2,17 @@ ghost use Rattle.std.specs.Prelude.{◌≡◌, ◌++◌, [], IfOk, OnOk, map};
 ghost use Rattle.txs_values.specs.TableView.{table_of};
 ghost use Rattle.txs_terms.specs.View.{function_of, constant_of, definitions_of};
 ghost use Rattle.txs_types.specs.Names as names;
-ghost use Rattle.txs_types.specs.View.{globals_of};
+ghost use Rattle.txs_types.specs.inner.View.{globals_of};
 
 use crate::global_names::{add_constructors, add_name, built_ins};
 use crate::meaning::{GlobalName, GlobalNames, Meaning};
-use crate::numbers::{number_of, place_behind};
+use crate::numbers::{number_of, place_after};
 use sqlite_items::Items;
 use std::alloc::Global;
 use txs_terms::{ConstantDef, Defs, FunctionDef};
 use txs_values::{NoMemory, TypeDef};
 
-/// Puts the names of the types of a table behind the others.
+/// Puts the names of the types of a table after the others.
 fn add_types(alloc: Global, list: &mut Items<GlobalName>, types: &[TypeDef]) -> Result<(), NoMemory>
     ensures { OnOk result (globals_of list.new ≡ globals_of list.old ++ names.table_globals 0 0 (table_of types.now)) }
 {
@@ -20,12 +20,12 @@ fn add_types(alloc: Global, list: &mut Items<GlobalName>, types: &[TypeDef]) -> 
     for (place, def) in types.iter().enumerate() {
         let of = number_of(place)?;
         add_constructors(alloc, list, first, of, def.cons.as_slice())?;
-        first = place_behind(first, def.cons.len())?;
+        first = place_after(first, def.cons.len())?;
     }
     Ok(())
 }
 
-/// Puts the names of functions behind the others.
+/// Puts the names of functions after the others.
 fn add_functions(
     alloc: Global,
     list: &mut Items<GlobalName>,
@@ -44,7 +44,7 @@ fn add_functions(
     Ok(())
 }
 
-/// Puts the names of constants behind the others.
+/// Puts the names of constants after the others.
 fn add_constants(
     alloc: Global,
     list: &mut Items<GlobalName>,

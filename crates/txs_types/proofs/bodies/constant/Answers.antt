@@ -1,5 +1,5 @@
 use Rattle.txs_values.specs.View.{ty_of}
-use Rattle.txs_types.proofs.FileJudged.{judged_constant}
+use Rattle.txs_types.proofs.files.Judged.{judged_constant}
 use Rattle.txs_types.proofs.bodies.constant.Goals as goal
 
 pub returns-clause-judged : goal.returns-clause-judged

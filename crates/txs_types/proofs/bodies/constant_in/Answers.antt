@@ -1,4 +1,4 @@
-use Rattle.txs_types.proofs.FileBodies.{no_constant_in}
+use Rattle.txs_types.proofs.files.Bodies.{no_constant_in}
 use Rattle.txs_types.proofs.bodies.constant_in.Goals as goal
 
 pub returns-in_default : goal.returns-in_default

@@ -2,7 +2,7 @@ use Rattle.std.proofs.Common.{refl, ◌∙◌, ap, map}
 use Rattle.txs_values.specs.View.{ty_of}
 use Rattle.txs_values.specs.Value.{field_types}
 use Rattle.txs_values.specs.TableView.{field_of}
-use Rattle.txs_types.proofs.FileJudged.{judged_function}
+use Rattle.txs_types.proofs.files.Judged.{judged_function}
 use Rattle.txs_types.proofs.bodies.function.Goals as goal
 
 pub returns-clause-judged : goal.returns-clause-judged

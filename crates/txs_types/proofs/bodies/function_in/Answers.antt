@@ -1,4 +1,4 @@
-use Rattle.txs_types.proofs.FileBodies.{no_function_in}
+use Rattle.txs_types.proofs.files.Bodies.{no_function_in}
 use Rattle.txs_types.proofs.bodies.function_in.Goals as goal
 
 pub returns-in_default : goal.returns-in_default

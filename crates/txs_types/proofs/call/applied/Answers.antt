@@ -8,11 +8,11 @@ use Rattle.txs_types.specs.declared.meaning.Meaning as rust_meaning
 use Rattle.txs_types.specs.declared.fault.TypeFault.TheVariants as fault
 use Rattle.txs_types.specs.Names.{named_function, named_test, named_selector, named_not, named_to_string, named_from_string, named_len, named_at}
 use Rattle.txs_types.specs.Elaborates.{Makes, function_made, test_made, selector_made, not_made, to_string_made, from_string_made, len_made, at_made}
-use Rattle.txs_types.specs.View.{meaning_of}
-use Rattle.txs_types.proofs.Unique.{some_injective}
+use Rattle.txs_types.specs.inner.View.{meaning_of}
+use Rattle.txs_types.proofs.trees.Unique.{some_injective}
 use Rattle.txs_terms.proofs.Views.{at_call}
-use Rattle.txs_types.specs.Parts.{Applies}
-use Rattle.txs_types.proofs.Calls.{of_one, of_two}
+use Rattle.txs_types.specs.inner.Parts.{Applies}
+use Rattle.txs_types.proofs.judging.Calls.{of_one, of_two}
 use Rattle.txs_types.proofs.call.applied.Goals as goal
 
 pub returns-in-Function : goal.returns-in-Function

@@ -2,8 +2,8 @@ use Rattle.std.proofs.Common.{ap, ◌∙◌}
 use Rattle.txs_terms.specs.View.{expr_of, exprs_of}
 use Rattle.txs_terms.specs.Expr as of
 use Rattle.txs_terms.specs.declared.expr.Binary.TheVariants as binary
-use Rattle.txs_types.proofs.Exprs.{seen_two}
-use Rattle.txs_types.proofs.Calls.{only_two}
+use Rattle.txs_types.proofs.judging.Exprs.{seen_two}
+use Rattle.txs_types.proofs.judging.Calls.{only_two}
 use Rattle.txs_types.proofs.call.char_at.Goals as goal
 
 pub returns : goal.returns

@@ -1,7 +1,7 @@
 use Rattle.std.proofs.Common.{refl}
 use Rattle.txs_terms.proofs.Views.{at_build}
-use Rattle.txs_types.proofs.Exprs.{seen_constructor}
-use Rattle.txs_types.proofs.Calls.{without_fields, with_fields}
+use Rattle.txs_types.proofs.judging.Exprs.{seen_constructor}
+use Rattle.txs_types.proofs.judging.Calls.{without_fields, with_fields}
 use Rattle.txs_types.proofs.call.constructed.Goals as goal
 
 pub returns-then-is_empty : goal.returns-then-is_empty

@@ -1,8 +1,8 @@
 use Rattle.std.proofs.Common.{ap, ◌∙◌}
 use Rattle.txs_terms.specs.View.{unary_of, expr_of, exprs_of}
 use Rattle.txs_terms.specs.Expr as of
-use Rattle.txs_types.proofs.Exprs.{seen_one}
-use Rattle.txs_types.proofs.Calls.{only_one}
+use Rattle.txs_types.proofs.judging.Exprs.{seen_one}
+use Rattle.txs_types.proofs.judging.Calls.{only_one}
 use Rattle.txs_types.proofs.call.one.Goals as goal
 
 pub returns : goal.returns

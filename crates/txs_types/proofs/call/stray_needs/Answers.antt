@@ -1,6 +1,6 @@
 use Rattle.std.proofs.Common.{ap, ◌∙◌}
-use Rattle.txs_types.specs.View.{scope_of, wants_of}
-use Rattle.txs_types.proofs.CallNodes.{strays_more}
+use Rattle.txs_types.specs.inner.View.{scope_of, wants_of}
+use Rattle.txs_types.proofs.judging.CallNodes.{strays_more}
 use Rattle.txs_types.proofs.call.stray_needs.Goals as goal
 
 pub loop-arg-preserved : goal.loop-arg-preserved

@@ -1,6 +1,6 @@
 use Rattle.std.proofs.Common.{◌≡◌, take}
-use Rattle.txs_types.specs.View.{scope_of, wants_of}
-use Rattle.txs_types.specs.Parts.{stray_needs}
+use Rattle.txs_types.specs.inner.View.{scope_of, wants_of}
+use Rattle.txs_types.specs.inner.Parts.{stray_needs}
 use Rattle.txs_types.proofs.call.stray_needs.Given as goal
 
 -- those of the arguments so far

@@ -1,5 +1,5 @@
 use Rattle.std.proofs.Common.{sym, ◌∙◌, true≢false}
-use Rattle.txs_types.proofs.NameLaws.{among_found, among_passed}
+use Rattle.txs_types.proofs.naming.Loops.{among_found, among_passed}
 use Rattle.txs_types.proofs.declarations.is_named.Goals as goal
 
 pub returns-then-is : goal.returns-then-is

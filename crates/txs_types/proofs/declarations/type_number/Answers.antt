@@ -1,5 +1,5 @@
 use Rattle.std.proofs.Common.{sym, ◌∙◌, true≢false}
-use Rattle.txs_types.proofs.NameLaws.{number_found, number_passed}
+use Rattle.txs_types.proofs.naming.Loops.{number_found, number_passed}
 use Rattle.txs_types.proofs.declarations.type_number.Goals as goal
 
 pub returns-then-is : goal.returns-then-is

@@ -1,10 +1,10 @@
 use Rattle.std.proofs.Common.{[], ◌∷◌, take, sym, subst, ◌∙◌}
 use Rattle.std.proofs.lemmas.List.{take_all}
 use Rattle.txs_types.specs.Files.{types_used}
-use Rattle.txs_types.specs.Told.{Finds}
-use Rattle.txs_types.specs.Among.{AnyUndefined}
-use Rattle.txs_types.proofs.NameLaws.{used_next}
-use Rattle.txs_types.proofs.Offending.{any_least}
+use Rattle.txs_types.specs.inner.Told.{Finds}
+use Rattle.txs_types.specs.inner.Among.{AnyUndefined}
+use Rattle.txs_types.proofs.naming.Loops.{used_next}
+use Rattle.txs_types.proofs.files.Offending.{any_least}
 use Rattle.txs_types.proofs.declarations.undefined.Goals as goal
 
 pub loop-decl-preserved : goal.loop-decl-preserved
@@ -15,7 +15,7 @@ loop-decl-preserved c =
     subst (λ ns. Finds c.least-fault.result (AnyUndefined types ns))
     (sym (used_next decls c.loop-decl.decl-index d c.loop-decl-test.true c.decl-item.is))
     (any_least types (types_used (take c.loop-decl.decl-index decls)) (d.ty ∷ []) c.loop-decl.fault c.undefined_name.result c.least-fault.result
-    c.least-fault.ensures c.loop-decl.invariant c.undefined_name.ensures)
+    c.least-fault.ensures c.loop-decl.invariant c.undefined_name.ensures.told)
 
 pub returns : goal.returns
 returns c =

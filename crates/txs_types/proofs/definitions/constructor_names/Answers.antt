@@ -1,7 +1,7 @@
 use Rattle.std.proofs.Common.{refl}
 use Rattle.txs_types.specs.Files.{constructor_names}
-use Rattle.txs_types.proofs.Gathering.{gather_more, gather_end}
-use Rattle.txs_types.proofs.Collecting.{split_constructor_names}
+use Rattle.txs_types.proofs.lists.Gathering.{gather_more, gather_end}
+use Rattle.txs_types.proofs.lists.Collecting.{split_constructor_names}
 use Rattle.txs_types.proofs.definitions.constructor_names.Goals as goal
 
 pub loop-con-preserved : goal.loop-con-preserved

@@ -1,7 +1,7 @@
 use Rattle.std.proofs.Common.{refl}
 use Rattle.txs_types.specs.Files.{defined_names}
-use Rattle.txs_types.proofs.Gathering.{gather_more, gather_end}
-use Rattle.txs_types.proofs.Collecting.{split_defined_names}
+use Rattle.txs_types.proofs.lists.Gathering.{gather_more, gather_end}
+use Rattle.txs_types.proofs.lists.Collecting.{split_defined_names}
 use Rattle.txs_types.proofs.definitions.defined_names.Goals as goal
 
 pub loop-def-preserved : goal.loop-def-preserved

@@ -12,21 +12,22 @@ use Rattle.txs_types.specs.Names.{inside}
 use Rattle.txs_types.specs.Elaborates.{ElaboratesEach, nothing}
 use Rattle.txs_types.specs.Elaborates.{right_first}
 use Rattle.txs_types.specs.Offends.{Offends}
-use Rattle.txs_types.proofs.ToldLaws.{Either}
-use Rattle.txs_types.specs.View.{scope_of, want_of, wants_of, called_of, Judges, JudgesAt}
-use Rattle.txs_types.specs.Parts.{Means, Tells, InOrder, OffendInOrder, JudgesEach, CallsWith, Whole, shown}
-use Rattle.txs_types.proofs.Judged.{taken}
-use Rattle.txs_types.proofs.Finish.{judges_of, tells_of}
-use Rattle.txs_types.proofs.CallNodes.{each_step, as_many_found, calls_node, unknown_node, arity_node, strays_told, strays_judged, length_strays}
-use Rattle.txs_types.proofs.Sides.{tells_both, tells_in_order, tells_sides, tells_back, negate_node, operator_node, comparison_node, group_node, if_node, if_free_node, let_node, BothMean}
-use Rattle.txs_types.proofs.Weights.{weight, weights, weight_call, weight_negate, weight_binary, weight_group, weight_if, weight_let, weight_of_one}
+use Rattle.txs_types.proofs.judging.Told.{Either}
+use Rattle.txs_types.specs.inner.View.{scope_of, wants_of, called_of, Judges, JudgesAt}
+use Rattle.txs_types.specs.Answer.{want_of}
+use Rattle.txs_types.specs.inner.Parts.{Means, Tells, InOrder, OffendInOrder, JudgesEach, CallsWith, Fitted, shown}
+use Rattle.txs_types.proofs.trees.Judged.{taken}
+use Rattle.txs_types.proofs.judging.Finish.{judges_of, tells_of}
+use Rattle.txs_types.proofs.judging.CallNodes.{each_step, as_many_found, calls_node, unknown_node, arity_node, strays_told, strays_judged, length_strays}
+use Rattle.txs_types.proofs.judging.Sides.{tells_both, tells_in_order, tells_sides, tells_back, negate_node, operator_node, comparison_node, group_node, if_node, if_free_node, let_node, BothMean}
+use Rattle.txs_types.proofs.trees.Weights.{weight, weights, weight_call, weight_negate, weight_binary, weight_group, weight_if, weight_let, weight_of_one}
 use Rattle.txs_types.proofs.expression.+expression.Goals as goal
 
 pub expression-returns-clause-judged : goal.expression-returns-clause-judged
 expression-returns-clause-judged t c =
     let s = scope_of c.args.scope.now in
     judges_of s (want_of c.args.want) c.args.tree.now c.judge.result
-    (subst (λ at. JudgesAt at s (want_of c.args.want) c.args.tree.now c.judge.result) c.first.ensures c.judge.ensures.judged)
+    (subst (λ at. JudgesAt at s (want_of c.args.want) c.args.tree.now c.judge.result) c.start.ensures c.judge.ensures.judged)
 
 -- ---- a level
 
@@ -154,12 +155,12 @@ each-loop-arg-preserved t c =
 -- ---- parts
 
 pub negation-returns-clause-judged : goal.negation-returns-clause-judged
-negation-returns-clause-judged t c = λ place.
+negation-returns-clause-judged t c = λ offset.
     let s = scope_of c.args.scope.now in
     let w = want_of c.args.want in
-    negate_node c.args.at place s w c.args.operand.now c.expression-found.result c.negated.result c.whole.result
+    negate_node c.args.at offset s w c.args.operand.now c.expression-found.result c.negated.result c.fitted.result
     (subst (λ a. Judges s (Some integer) a c.expression-found.result) c.get.ensures c.expression-found.ensures.judged) c.negated.ensures
-    (subst (λ s. Whole (scope_of s) w c.args.at integer c.negated.result c.whole.result) c.expression-found.ensures.kept c.whole.ensures)
+    (subst (λ s. Fitted (scope_of s) w c.args.at integer c.negated.result c.fitted.result) c.expression-found.ensures.kept c.fitted.ensures)
 
 pub both-returns-clause-told : goal.both-returns-clause-told
 both-returns-clause-told t c =
@@ -206,47 +207,47 @@ pub operation-returns-in-Some-clause-judged : goal.operation-returns-in-Some-cla
 operation-returns-in-Some-clause-judged t c =
     let s = scope_of c.args.scope.now in
     let w = want_of c.args.want in
-    operator_node c.args.at s w c.args.op c.args.left.now c.args.right.now (ty_of c.in-Some.need) c.both-found.result c.operated.result c.whole.result
+    operator_node c.args.at s w c.args.op c.args.left.now c.args.right.now (ty_of c.in-Some.need) c.both-found.result c.operated.result c.fitted.result
     (sym c.operand.ensures ∙ ap want_of c.in-Some.is) c.both-found.ensures.told c.operated.ensures
-    (subst (λ n. Whole s w c.args.at n c.operated.result c.whole.result) c.outcome.ensures
-    (subst (λ s. Whole (scope_of s) w c.args.at (ty_of c.outcome.result) c.operated.result c.whole.result) c.both-found.ensures.kept c.whole.ensures))
+    (subst (λ n. Fitted s w c.args.at n c.operated.result c.fitted.result) c.outcome.ensures
+    (subst (λ s. Fitted (scope_of s) w c.args.at (ty_of c.outcome.result) c.operated.result c.fitted.result) c.both-found.ensures.kept c.fitted.ensures))
 
 pub operation-returns-in-None-clause-judged : goal.operation-returns-in-None-clause-judged
 operation-returns-in-None-clause-judged t c =
     let s = scope_of c.args.scope.now in
     let w = want_of c.args.want in
-    comparison_node c.args.at s w c.args.op c.args.left.now c.args.right.now c.compared-found.result c.operated-in-None.result c.whole-in-None.result
+    comparison_node c.args.at s w c.args.op c.args.left.now c.args.right.now c.compared-found.result c.operated-in-None.result c.fitted-in-None.result
     (sym c.operand.ensures ∙ ap want_of c.in-None.is) c.compared-found.ensures.told c.operated-in-None.ensures
-    (subst (λ n. Whole s w c.args.at n c.operated-in-None.result c.whole-in-None.result) c.outcome-in-None.ensures
-    (subst (λ s. Whole (scope_of s) w c.args.at (ty_of c.outcome-in-None.result) c.operated-in-None.result c.whole-in-None.result) c.compared-found.ensures.kept c.whole-in-None.ensures))
+    (subst (λ n. Fitted s w c.args.at n c.operated-in-None.result c.fitted-in-None.result) c.outcome-in-None.ensures
+    (subst (λ s. Fitted (scope_of s) w c.args.at (ty_of c.outcome-in-None.result) c.operated-in-None.result c.fitted-in-None.result) c.compared-found.ensures.kept c.fitted-in-None.ensures))
 
 pub choice-returns-in-Some-clause-judged : goal.choice-returns-in-Some-clause-judged
-choice-returns-in-Some-clause-judged t c = λ at place.
+choice-returns-in-Some-clause-judged t c = λ at offset.
     let s = scope_of c.args.scope.now in
     let need = ty_of c.in-Some.need in
     let p = c.args.condition.now in
     let a = c.args.yes.now in
     let b = c.args.no.now in
-    subst (λ w. JudgesAt at s (want_of w) (tree.If place p a b) c.chosen.result) (sym c.in-Some.is)
-    (if_node at place s need p a b c.expression-c.result c.both-found.result c.joined.result c.chosen.result
+    subst (λ w. JudgesAt at s (want_of w) (tree.If offset p a b) c.chosen.result) (sym c.in-Some.is)
+    (if_node at offset s need p a b c.expression-c.result c.both-found.result c.joined.result c.chosen.result
     (subst (λ p. Judges s (Some truth) p c.expression-c.result) c.get.ensures c.expression-c.ensures.judged)
     (subst (λ s. Tells (BothMean (scope_of s) (Some need) a b) (Either (Offends (scope_of s) (Some need) a) (Offends (scope_of s) (Some need) b)) c.both-found.result)
     c.expression-c.ensures.kept c.both-found.ensures.told) c.joined.ensures c.chosen.ensures)
 
 pub choice-returns-in-None-clause-judged : goal.choice-returns-in-None-clause-judged
-choice-returns-in-None-clause-judged t c = λ at place.
+choice-returns-in-None-clause-judged t c = λ at offset.
     let s = scope_of c.args.scope.now in
     let p = c.args.condition.now in
     let a = c.args.yes.now in
     let b = c.args.no.now in
-    subst (λ w. JudgesAt at s (want_of w) (tree.If place p a b) c.chosen-in-None.result) (sym c.in-None.is)
-    (if_free_node at place s p a b c.expression-c.result c.in_order-found.result c.joined-in-None.result c.chosen-in-None.result
+    subst (λ w. JudgesAt at s (want_of w) (tree.If offset p a b) c.chosen-in-None.result) (sym c.in-None.is)
+    (if_free_node at offset s p a b c.expression-c.result c.in_order-found.result c.joined-in-None.result c.chosen-in-None.result
     (subst (λ p. Judges s (Some truth) p c.expression-c.result) c.get.ensures c.expression-c.ensures.judged)
     (subst (λ s. Tells (InOrder (scope_of s) a b) (OffendInOrder (scope_of s) a b) c.in_order-found.result)
     c.expression-c.ensures.kept c.in_order-found.ensures.told) c.joined-in-None.ensures c.chosen-in-None.ensures)
 
 pub binding-returns-in-Ok-clause-judged : goal.binding-returns-in-Ok-clause-judged
-binding-returns-in-Ok-clause-judged t c = λ at place.
+binding-returns-in-Ok-clause-judged t c = λ at offset.
     let s = scope_of c.args.scope.now in
     let w = want_of c.args.want in
     let x = c.args.name.now in
@@ -255,7 +256,7 @@ binding-returns-in-Ok-clause-judged t c = λ at place.
     let n = c.shown-ty.ensures ∙ ap (λ s. shown (scope_of s) v) c.expression-a.ensures.kept in
     let e =
     c.in-Ok.ensures.bound ∙ (ap (λ s. inside (scope_of s) x.text (ty_of c.shown-ty.result)) c.expression-a.ensures.kept ∙ ap (λ n. inside s x.text n) n) in
-    let_node at place s w x c.args.value.now c.args.body.now v u c.joined.result c.bound.result
+    let_node at offset s w x c.args.value.now c.args.body.now v u c.joined.result c.bound.result
     (subst (λ a. Judges s None a v) c.get.ensures c.expression-a.ensures.judged)
     (subst (λ s. Judges s w c.args.body.now u) e (subst (λ b. Judges (scope_of c.bind.new.self) w b u) c.get-in-Ok.ensures c.expression-b.ensures.judged))
     c.joined.ensures c.bound.ensures

@@ -1,7 +1,7 @@
 use Rattle.std.proofs.Common.{◌≡◌, ◌+◌, ◌*◌, take}
-use Rattle.txs_types.specs.View.{scope_of, wants_of}
-use Rattle.txs_types.specs.Parts.{JudgesEach}
-use Rattle.txs_types.proofs.Weights.{weight, weights}
+use Rattle.txs_types.specs.inner.View.{scope_of, wants_of}
+use Rattle.txs_types.specs.inner.Parts.{JudgesEach}
+use Rattle.txs_types.proofs.trees.Weights.{weight, weights}
 use Rattle.txs_types.proofs.expression.+expression.Given as goal
 
 abbrev pub decreases-expression : goal.decreases-expression

@@ -1,5 +1,5 @@
 use Rattle.std.proofs.Common.{rules, sym, true≢false}
-use Rattle.txs_types.specs.Told.{memory_first, left_first, right_first}
+use Rattle.txs_types.specs.inner.Told.{memory_first, left_first, right_first}
 use Rattle.txs_types.proofs.fault.lesser.Goals as goal
 
 pub returns-then-is_before : goal.returns-then-is_before

@@ -1,4 +1,4 @@
-use Rattle.txs_types.proofs.FileParts.{names_found}
+use Rattle.txs_types.proofs.files.Parts.{names_found}
 use Rattle.txs_types.proofs.file.fault_in_names.Goals as goal
 
 pub returns : goal.returns

@@ -1,4 +1,4 @@
-use Rattle.txs_types.proofs.FileParts.{outside_found}
+use Rattle.txs_types.proofs.files.Parts.{outside_found}
 use Rattle.txs_types.proofs.file.fault_outside_bodies.Goals as goal
 
 pub returns : goal.returns

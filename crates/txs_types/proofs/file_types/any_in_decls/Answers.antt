@@ -1,7 +1,7 @@
 use Rattle.std.proofs.Common.{refl, sym, ◌∙◌, List}
 use Rattle.txs_syntax.specs.declared.file.Decl.{Decl}
 use Rattle.txs_types.specs.Files as files
-use Rattle.txs_types.proofs.Gathering.{seek_more, seek_found, seek_end}
+use Rattle.txs_types.proofs.lists.Gathering.{seek_more, seek_found, seek_end}
 use Rattle.txs_types.proofs.file_types.any_in_decls.Goals as goal
 
 pub loop-decl-preserved : goal.loop-decl-preserved

@@ -1,8 +1,8 @@
 use Rattle.std.proofs.Common.{refl, sym, ◌∙◌, List, ap}
 use Rattle.txs_syntax.specs.declared.file.ConDef.{ConDef}
 use Rattle.txs_types.specs.Files as files
-use Rattle.txs_types.proofs.Gathering.{seek_more, seek_found, seek_end}
-use Rattle.txs_types.proofs.Collecting.{split_fields}
+use Rattle.txs_types.proofs.lists.Gathering.{seek_more, seek_found, seek_end}
+use Rattle.txs_types.proofs.lists.Collecting.{split_fields}
 use Rattle.txs_types.proofs.file_types.any_undefined.Goals as goal
 
 pub loop-con-preserved : goal.loop-con-preserved

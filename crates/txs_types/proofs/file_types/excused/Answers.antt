@@ -1,7 +1,7 @@
 use Rattle.std.proofs.Common.{refl, ◌∷◌, []}
 use Rattle.txs_types.specs.Files as files
-use Rattle.txs_types.proofs.Gathering.{gather_more, gather_end}
-use Rattle.txs_types.proofs.Collecting.{split_excused}
+use Rattle.txs_types.proofs.lists.Gathering.{gather_more, gather_end}
+use Rattle.txs_types.proofs.lists.Collecting.{split_excused}
 use Rattle.txs_types.proofs.file_types.excused.Goals as goal
 
 pub loop-def-preserved : goal.loop-def-preserved

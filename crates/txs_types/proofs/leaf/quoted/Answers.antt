@@ -3,12 +3,13 @@ use Rattle.txs_values.specs.declared.value.Value.TheVariants as value
 use Rattle.txs_values.specs.Value.{text}
 use Rattle.txs_terms.specs.Expr.{val}
 use Rattle.txs_terms.specs.declared.expr.Expr.TheVariants as form
-use Rattle.txs_types.specs.View.{scope_of, want_of}
-use Rattle.txs_types.proofs.Finish.{judges_text}
-use Rattle.txs_types.proofs.Exprs.{seen_text}
+use Rattle.txs_types.specs.inner.View.{scope_of}
+use Rattle.txs_types.specs.Answer.{want_of}
+use Rattle.txs_types.proofs.judging.Finish.{judges_text}
+use Rattle.txs_types.proofs.judging.Exprs.{seen_text}
 use Rattle.txs_types.proofs.leaf.quoted.Goals as goal
 
 pub returns-in-Ok : goal.returns-in-Ok
-returns-in-Ok c = λ place.
-    judges_text c.args.at place (scope_of c.args.scope.now) (want_of c.args.want) c.args.text.now (form.Value (value.Text c.in-Ok.text)) c.whole.result
-    (seen_text c.in-Ok.text ∙ ap (λ s. val (text s)) c.in-Ok.ensures) c.whole.ensures
+returns-in-Ok c = λ offset.
+    judges_text c.args.at offset (scope_of c.args.scope.now) (want_of c.args.want) c.args.text.now (form.Value (value.Text c.in-Ok.text)) c.fitted.result
+    (seen_text c.in-Ok.text ∙ ap (λ s. val (text s)) c.in-Ok.ensures) c.fitted.ensures

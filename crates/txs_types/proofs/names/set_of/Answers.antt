@@ -1,6 +1,6 @@
 use Rattle.std.specs.BTreeSet.{contains_text}
 use Rattle.txs_types.specs.Files.{is_among}
-use Rattle.txs_types.proofs.NameLaws.{put_next}
+use Rattle.txs_types.proofs.naming.Loops.{put_next}
 use Rattle.txs_types.proofs.names.set_of.Goals as goal
 
 pub loop-text-preserved : goal.loop-text-preserved

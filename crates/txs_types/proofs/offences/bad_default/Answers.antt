@@ -1,5 +1,5 @@
 use Rattle.std.proofs.Common.{sym, ◌∙◌, true≢false}
-use Rattle.txs_types.proofs.Offending.{empty_stands, big_stands, no_bad}
+use Rattle.txs_types.proofs.files.Offending.{empty_stands, big_stands, no_bad}
 use Rattle.txs_types.proofs.offences.bad_default.Goals as goal
 
 pub returns-in-None : goal.returns-in-None

@@ -1,6 +1,6 @@
 use Rattle.std.proofs.Common.{◌∙◌}
-use Rattle.txs_types.specs.Among.{BadDefault}
-use Rattle.txs_types.proofs.Deciding.{among_none, among_more, among_end}
+use Rattle.txs_types.specs.inner.Among.{BadDefault}
+use Rattle.txs_types.proofs.lists.Deciding.{among_none, among_more, among_end}
 use Rattle.txs_types.proofs.offences.bad_type.Goals as goal
 
 pub loop-place-init : goal.loop-place-init

@@ -1,6 +1,6 @@
 use Rattle.std.proofs.Common.{take}
-use Rattle.txs_types.specs.Told.{Finds}
-use Rattle.txs_types.specs.Among.{Among, BadDefault}
+use Rattle.txs_types.specs.inner.Told.{Finds}
+use Rattle.txs_types.specs.inner.Among.{Among, BadDefault}
 use Rattle.txs_types.proofs.offences.bad_type.Given as goal
 
 -- the fault so far

@@ -1,8 +1,8 @@
 use Rattle.std.proofs.Common.{subst, ◌∙◌, List, ℕ, []}
 use Rattle.std.specs.Prelude.{IfOk}
 use Rattle.txs_syntax.specs.declared.ast.Name.{Name}
-use Rattle.txs_types.specs.Told.{Finds}
-use Rattle.txs_types.specs.Among.{IsTwice}
+use Rattle.txs_types.specs.inner.Told.{Finds}
+use Rattle.txs_types.specs.inner.Among.{IsTwice}
 use Rattle.txs_types.proofs.offences.twice_among.Goals as goal
 
 pub returns : goal.returns

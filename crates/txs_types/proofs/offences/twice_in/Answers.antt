@@ -1,8 +1,8 @@
 use Rattle.std.proofs.Common.{subst, sym}
 use Rattle.std.specs.Prelude.{IfOk}
 use Rattle.txs_syntax.specs.declared.file.Def.{Def}
-use Rattle.txs_types.specs.Told.{Finds}
-use Rattle.txs_types.specs.Among.{TwiceIn}
+use Rattle.txs_types.specs.inner.Told.{Finds}
+use Rattle.txs_types.specs.inner.Among.{TwiceIn}
 use Rattle.txs_types.proofs.offences.twice_in.Goals as goal
 
 pub returns-in-FuncDef : goal.returns-in-FuncDef

@@ -1,5 +1,5 @@
-use Rattle.txs_types.specs.Among.{TwiceIn}
-use Rattle.txs_types.proofs.Deciding.{among_none, among_more, among_end}
+use Rattle.txs_types.specs.inner.Among.{TwiceIn}
+use Rattle.txs_types.proofs.lists.Deciding.{among_none, among_more, among_end}
 use Rattle.txs_types.proofs.offences.twice_parameter.Goals as goal
 
 pub loop-def-init : goal.loop-def-init

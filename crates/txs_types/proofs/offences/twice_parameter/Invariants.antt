@@ -1,6 +1,6 @@
 use Rattle.std.proofs.Common.{take}
-use Rattle.txs_types.specs.Told.{Finds}
-use Rattle.txs_types.specs.Among.{AmongDefs, TwiceIn}
+use Rattle.txs_types.specs.inner.Told.{Finds}
+use Rattle.txs_types.specs.inner.Among.{AmongDefs, TwiceIn}
 use Rattle.txs_types.proofs.offences.twice_parameter.Given as goal
 
 -- the fault so far

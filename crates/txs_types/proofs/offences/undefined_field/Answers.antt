@@ -2,10 +2,10 @@ use Rattle.std.proofs.Common.{subst, List}
 use Rattle.std.proofs.lemmas.List.{take_all}
 use Rattle.txs_syntax.specs.declared.file.ConDef.{ConDef}
 use Rattle.txs_types.specs.Files.{types_of_fields}
-use Rattle.txs_types.specs.Told.{Finds}
-use Rattle.txs_types.specs.Among.{AnyUndefined}
-use Rattle.txs_types.proofs.NotBoth.{none≢some}
-use Rattle.txs_types.proofs.Offending.{fields_more}
+use Rattle.txs_types.specs.inner.Told.{Finds}
+use Rattle.txs_types.specs.inner.Among.{AnyUndefined}
+use Rattle.txs_types.proofs.trees.NotBoth.{none≢some}
+use Rattle.txs_types.proofs.files.Offending.{fields_more}
 use Rattle.txs_types.proofs.offences.undefined_field.Goals as goal
 
 pub loop-con-init : goal.loop-con-init

@@ -1,10 +1,11 @@
 use Rattle.std.proofs.Common.{ap, subst, ◌∙◌}
 use Rattle.txs_terms.specs.View.{definitions_of}
 use Rattle.txs_types.specs.Files.{names_of}
-use Rattle.txs_types.specs.Told.{Finds}
-use Rattle.txs_types.specs.Queries.{InDeclarations}
-use Rattle.txs_types.specs.View.{want_of, Judges}
-use Rattle.txs_types.proofs.QueryLaws.{query_clean, query_told, query_typed, query_safe}
+use Rattle.txs_types.specs.inner.Told.{Finds}
+use Rattle.txs_types.specs.inner.Queries.{InDeclarations}
+use Rattle.txs_types.specs.inner.View.{Judges}
+use Rattle.txs_types.specs.Answer.{want_of}
+use Rattle.txs_types.proofs.files.Queries.{query_clean, query_told, query_typed, query_safe}
 use Rattle.txs_types.proofs.query.type_query.Goals as goal
 
 pub returns-clause-clean : goal.returns-clause-clean

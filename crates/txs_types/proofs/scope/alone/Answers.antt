@@ -1,8 +1,8 @@
 use Rattle.std.proofs.Common.{◌∙◌, ap, sym, map}
 use Rattle.txs_values.specs.View.{ty_of}
 use Rattle.txs_types.specs.Names as names
-use Rattle.txs_types.specs.View.{meaning_of}
-use Rattle.txs_types.proofs.Lookups.{alone_with_fields}
+use Rattle.txs_types.specs.inner.View.{meaning_of}
+use Rattle.txs_types.proofs.lists.Lookups.{alone_with_fields}
 use Rattle.txs_types.proofs.scope.alone.Goals as goal
 
 pub returns-else-is_empty : goal.returns-else-is_empty

@@ -5,8 +5,8 @@ use Rattle.txs_values.specs.Value.{Ty}
 use Rattle.txs_values.specs.View.{ty_of}
 use Rattle.txs_values.specs.TableView.{field_of}
 use Rattle.txs_types.specs.Names.{last_of}
-use Rattle.txs_types.proofs.Lookups.{or_else, last_other, last_same}
-use Rattle.txs_types.proofs.Tests.{same_text, other_text}
+use Rattle.txs_types.proofs.lists.Lookups.{or_else, last_other, last_same}
+use Rattle.txs_types.proofs.naming.Tests.{same_text, other_text}
 use Rattle.txs_types.proofs.scope.last_of.Goals.{then-is, else-is}
 use Rattle.txs_types.proofs.scope.last_of.Goals as goal
 

@@ -3,7 +3,7 @@ use Rattle.std.specs.Prelude.{option_map}
 use Rattle.txs_values.specs.View.{ty_of}
 use Rattle.txs_values.specs.TableView.{field_of}
 use Rattle.txs_types.specs.Names.{last_of}
-use Rattle.txs_types.proofs.Lookups.{or_else}
+use Rattle.txs_types.proofs.lists.Lookups.{or_else}
 use Rattle.txs_types.proofs.scope.last_of.Given as goal
 
 -- the last of the rest, or else the one that was found

@@ -1,7 +1,7 @@
 use Rattle.std.proofs.Common.{◌≡◌, take, map}
 use Rattle.txs_values.specs.View.{ty_of}
 use Rattle.txs_types.specs.Names.{needed}
-use Rattle.txs_types.specs.View.{wants_of}
+use Rattle.txs_types.specs.inner.View.{wants_of}
 use Rattle.txs_types.proofs.scope.needed.Given as goal
 
 -- those so far

@@ -1,7 +1,7 @@
 use Rattle.std.proofs.Common.{◌∙◌, ap, sym, Some, refl, bytes_eq}
-use Rattle.txs_types.specs.View.{global_of}
-use Rattle.txs_types.proofs.Lookups.{other_name, same_name}
-use Rattle.txs_types.proofs.Tests.{same_text, other_text}
+use Rattle.txs_types.specs.inner.View.{global_of}
+use Rattle.txs_types.proofs.lists.Lookups.{other_name, same_name}
+use Rattle.txs_types.proofs.naming.Tests.{same_text, other_text}
 use Rattle.txs_types.proofs.meaning.GlobalNames.find.Goals as goal
 
 pub returns-then-is : goal.returns-then-is

@@ -1,6 +1,6 @@
 use Rattle.std.proofs.Common.{◌≡◌, drop}
 use Rattle.txs_types.specs.Names.{global_of}
-use Rattle.txs_types.specs.View.{globals_of}
+use Rattle.txs_types.specs.inner.View.{globals_of}
 use Rattle.txs_types.proofs.meaning.GlobalNames.find.Given as goal
 
 -- those before it have other names
