@@ -167,5 +167,3 @@ pub fn run_load(alloc: Global, bytes: &[u8]) -> Result<Model, LoadFault>
     }
 }
 
-#[cfg(test)]
-mod tests;
