@@ -12,7 +12,7 @@ use Rattle.std.specs.Str.{IsAscii, IsUtf8}
 use Rattle.std.specs.Str.Parse.{AllDigits, IsNumeral, digits_value, ParsesUnsigned, ParsesSigned}
 use Rattle.txs_values.specs.Spelling.{is_digit, is_letter, is_name_byte}
 use Rattle.txs_drive.specs.Form.{is_worded, is_name}
-use Rattle.txs_drive.specs.Reading.{are_digits, number_read, port_read, nonzero}
+use Rattle.txs_drive.specs.inner.Parsing.{are_digits, number_read, port_read, nonzero}
 use Rattle.txs_drive.proofs.Tests.{and-both, both-and, yes, no}
 
 -- ---- ASCII

@@ -4,7 +4,7 @@ ghost use Rattle.txs_drive.specs.Commands;
 ghost use Rattle.txs_drive.specs.Commands.{without_return, action_of, command_of, by_word};
 
 use crate::Model;
-use crate::pieces::{cut, cut_word, strip};
+use crate::cuts::{cut, cut_word, strip};
 use txs_values::read_int;
 
 /// What a line of a session says.

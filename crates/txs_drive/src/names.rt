@@ -2,7 +2,7 @@ ghost use Rattle.std.specs.Prelude.{◌≡◌, map, IfOk};
 ghost use Rattle.std.specs.List.{list_all};
 ghost use Rattle.txs_drive.specs.Form;
 ghost use Rattle.txs_drive.specs.Form.{IsName};
-ghost use Rattle.txs_drive.specs.Reading.{Reads, is_listed, name_read};
+ghost use Rattle.txs_drive.specs.inner.Parsing.{Reads, is_listed, name_read};
 ghost use Rattle.txs_values.specs.Spelling;
 
 use crate::LoadFault;

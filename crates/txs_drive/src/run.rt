@@ -25,7 +25,7 @@ pub struct Run {
 
 impl Run {
     ghost use Rattle.txs_drive.specs.Session.{new_run, seen_run, over_run};
-    ghost use Rattle.txs_drive.specs.Ready.{run_of, IsKept, HasRoom};
+    ghost use Rattle.txs_drive.specs.inner.Ready.{run_of, IsKept, HasRoom};
 
     /// A run whose ends are not dialled yet.
     pub(crate) fn begin(alloc: Global, model: &Model) -> Result<Run, NoMemory>
