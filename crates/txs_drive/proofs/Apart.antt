@@ -3,7 +3,7 @@ use Rattle.std.proofs.Common.{◌≡◌, inl, inr, ℕ, ◌-◌, ◌≤◌, true
 use Rattle.std.proofs.Math.Seq.{take-append_seam, drop-append_seam}
 use Rattle.std.proofs.lemmas.List.{take-append-drop}
 use Rattle.txs_drive.specs.inner.FileWords.{FileWords, are_same, front_words, out_words, in_words, assembled, placed, kept, taken_apart}
-use Rattle.txs_drive.proofs.Tests.{by-test, le-true, and-both, both-and, eq-bytes, bytes-eq, yes, no}
+use Rattle.txs_values.proofs.Tests.{by-test, le-true, and-both, both-and, eq-bytes, bytes-eq, yes, no}
 
 pub same-eq : (ws xs : List (List ℕ)) → are_same ws xs ≡ true → ws ≡ xs
 same-eq [] [] h = refl

@@ -15,7 +15,7 @@ use Rattle.txs_drive.specs.inner.Parsing.{Reads, behaviour_read, port_read}
 use Rattle.txs_drive.proofs.Apart.{apart-assembled, assembled-apart}
 use Rattle.txs_drive.proofs.Behaviours.{read-spells, spells-read, spells-plain}
 use Rattle.txs_drive.proofs.Parts.{host-quoted, quoted-host, ports-spelled, ports-read, named-each, each-named}
-use Rattle.txs_drive.proofs.Tests.{by-test, le-true, true-le, and-both, both-and, ne-bytes, bytes-eq, not-both, yes}
+use Rattle.txs_values.proofs.Tests.{by-test, le-true, true-le, and-both, both-and, ne-bytes, bytes-eq, not-both, yes}
 use Rattle.txs_drive.proofs.Texts.{texts-behind}
 
 -- the host among words that are texts

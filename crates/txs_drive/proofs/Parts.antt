@@ -12,7 +12,7 @@ use Rattle.txs_drive.specs.inner.FileWords.{FileWords, unquoted, host_read, same
 use Rattle.txs_drive.specs.inner.Parsing.{are_digits, nonzero, port_read}
 use Rattle.txs_drive.proofs.Apart.{take-before, drop-before}
 use Rattle.txs_drive.proofs.Digits.{digits-here, digits-numeral}
-use Rattle.txs_drive.proofs.Tests.{by-test, le-true, and-both, both-and, eq-bytes, yes, no}
+use Rattle.txs_values.proofs.Tests.{by-test, le-true, and-both, both-and, eq-bytes, yes, no}
 use Rattle.txs_drive.proofs.Texts.{quoted-text}
 
 -- ---- hosts

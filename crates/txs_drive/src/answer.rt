@@ -9,7 +9,7 @@ use crate::cuts::cut;
 use txs_outside::Told;
 
 /// What an answer of the system says.
-#[derive(Clone, Copy, Debug, PartialEq, Eq)]
+#[derive(Clone, Copy)]
 pub enum Answer {
     /// An action on the output channel.
     Number(i128),

@@ -8,7 +8,7 @@ use crate::cuts::{cut, cut_word, strip};
 use txs_values::read_int;
 
 /// What a line of a session says.
-#[derive(Clone, Copy, Debug, PartialEq, Eq)]
+#[derive(Clone, Copy)]
 pub enum Command {
     /// Nothing, or more than a line may have.
     Pass,

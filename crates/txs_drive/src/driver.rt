@@ -16,19 +16,19 @@ use crate::lines::{line_of, sent_line};
 use crate::session::Prepared;
 use crate::{Answer, Doing, Model, Note, Session};
 use sqlite_items::Items;
-use std::alloc::{AllocError, AllocFailed, Global};
+use std::alloc::Global;
 use txs_outside::{End, Ends, Failed, Sink, Sut};
 use txs_values::NoMemory;
 
 /// Why a session stops before its commands are carried out.
-#[derive(Clone, Copy, Debug, PartialEq, Eq)]
+#[derive(Clone, Copy)]
 pub enum Stop {
     NoMemory,
     Sink,
 }
 
 /// How a session goes on behind a step.
-#[derive(Clone, Copy, Debug, PartialEq, Eq)]
+#[derive(Clone, Copy)]
 pub enum Next {
     GoesOn,
     Idle,
@@ -41,26 +41,6 @@ impl From<NoMemory> for Stop {
     ghost from_gives = { λ _ e. e ≡ NoMemory };
 
     fn from(_e: NoMemory) -> Stop {
-        Stop::NoMemory
-    }
-}
-
-impl From<AllocError> for Stop {
-    ghost use Rattle.txs_drive.specs.declared.driver.Stop.TheVariants.{NoMemory};
-
-    ghost from_gives = { λ _ e. e ≡ NoMemory };
-
-    fn from(_e: AllocError) -> Stop {
-        Stop::NoMemory
-    }
-}
-
-impl<T: Drop> From<AllocFailed<T>> for Stop {
-    ghost use Rattle.txs_drive.specs.declared.driver.Stop.TheVariants.{NoMemory};
-
-    ghost from_gives = { λ _ e. e ≡ NoMemory };
-
-    fn from(_e: AllocFailed<T>) -> Stop {
         Stop::NoMemory
     }
 }

@@ -19,7 +19,7 @@ use txs_values::{Bytes, NoMemory};
 const LIMIT: usize = 16_777_216;
 
 /// How the commands came to their end.
-#[derive(Clone, Copy, Debug, PartialEq, Eq)]
+#[derive(Clone, Copy)]
 pub enum Finish {
     Quit,
     End,
@@ -28,7 +28,7 @@ pub enum Finish {
 }
 
 /// What a read gave.
-#[derive(Debug, Drop)]
+#[derive(Drop)]
 pub enum Read {
     Bytes(Bytes),
     End,

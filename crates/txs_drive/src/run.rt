@@ -12,7 +12,7 @@ use txs_terms::{Action, Term, after_action, after_quiescence, first};
 use txs_values::NoMemory;
 
 /// A run of a tester.
-#[derive(Debug, Drop)]
+#[derive(Drop)]
 pub struct Run {
     /// What was numbered, from the first on.
     pub trace: Vec<Seen>,

@@ -12,7 +12,7 @@ use txs_terms::Term;
 use txs_values::NoMemory;
 
 /// One session: its run, and what it is to do next.
-#[derive(Debug, Drop)]
+#[derive(Drop)]
 pub struct Session {
     run: Option<Run>,
     has_failed: bool,
@@ -20,7 +20,7 @@ pub struct Session {
 }
 
 /// What a run goes on with behind an action, made before it is sent.
-#[derive(Debug, Drop)]
+#[derive(Drop)]
 pub(crate) struct Prepared {
     /// The terms after the action.
     set: Items<Term>,
