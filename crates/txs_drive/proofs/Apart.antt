@@ -1,9 +1,9 @@
--- The words of a file are those of its pieces, and of no others.
+-- The words of a file are those that it may choose with those of the form, and of no others.
 use Rattle.std.proofs.Common.{◌≡◌, inl, inr, ℕ, ◌-◌, ◌≤◌, true, false, cond, ◌&&◌, nat_le, List, [], ◌∷◌, ◌++◌, length, take, drop, append_assoc, length-append, Option, Some, None, refl, sym, ◌∙◌, ap, arith, bytes_eq}
 use Rattle.std.proofs.Math.Seq.{take-append_seam, drop-append_seam}
 use Rattle.std.proofs.lemmas.List.{take-append-drop}
-use Rattle.txs_drive.specs.Pieces.{Pieces, are_same, front_words, out_words, in_words, assembled, placed, kept, taken_apart}
-use Rattle.txs_drive.proofs.Tests.{by-test, le-true, and-both, both-and, eq-bytes, bytes-eq, yes, no}
+use Rattle.txs_drive.specs.inner.FileWords.{FileWords, are_same, front_words, out_words, in_words, assembled, placed, kept, taken_apart}
+use Rattle.txs_values.proofs.Tests.{by-test, le-true, and-both, both-and, eq-bytes, bytes-eq, yes, no}
 
 pub same-eq : (ws xs : List (List ℕ)) → are_same ws xs ≡ true → ws ≡ xs
 same-eq [] [] h = refl
@@ -25,18 +25,18 @@ cut-join n k m ws a b c d ea eb ec ed =
     ∙ (ap (λ q. a ++ q) (sym (take-append-drop k (drop n ws)) ∙ (ap (λ q. q ++ drop k (drop n ws)) eb ∙ ap (λ q. b ++ q) (sym (take-append-drop m (drop k (drop n ws))) ∙ (ap (λ q. q ++ drop m (drop k (drop n ws))) ec ∙ ap (λ q. c ++ q) ed))))
     ∙ sym (append_assoc a b (c ++ d))))
 
-kept-cuts : (front b back : List (List ℕ)) (p : Pieces) → kept front b back ≡ Some p
+kept-cuts : (front b back : List (List ℕ)) (p : FileWords) → kept front b back ≡ Some p
     → (front ≡ front_words p) × (b ≡ p.behaviour) × (take 22 back ≡ out_words p) × (drop 22 back ≡ in_words p)
 kept-cuts front b back p h =
     elim (by-test (are_same front (front_words (placed front b back)) && (are_same (take 22 back) (out_words (placed front b back)) && are_same (drop 22 back) (in_words (placed front b back)))) (Some (placed front b back)) None (Some p) h) [
       | inl d ↦ let q : placed front b back ≡ p = cc in
           let f = and-both (are_same front (front_words (placed front b back))) _ d.0 in
           let g = and-both (are_same (take 22 back) (out_words (placed front b back))) (are_same (drop 22 back) (in_words (placed front b back))) f.1 in
-          (same-eq front _ f.0 ∙ ap front_words q, ap (λ (z : Pieces). z.behaviour) q, same-eq (take 22 back) _ g.0 ∙ ap out_words q, same-eq (drop 22 back) _ g.1 ∙ ap in_words q)
+          (same-eq front _ f.0 ∙ ap front_words q, ap (λ (z : FileWords). z.behaviour) q, same-eq (take 22 back) _ g.0 ∙ ap out_words q, same-eq (drop 22 back) _ g.1 ∙ ap in_words q)
       | inr d ↦ absurd (cc)
     ]
 
-pub apart-assembled : (ws : List (List ℕ)) (p : Pieces) → taken_apart ws ≡ Some p → ws ≡ assembled p
+pub apart-assembled : (ws : List (List ℕ)) (p : FileWords) → taken_apart ws ≡ Some p → ws ≡ assembled p
 apart-assembled ws p h =
     elim (by-test (nat_le 59 (length ws)) (kept (take 19 ws) (take (length (drop 19 ws) - 40) (drop 19 ws)) (drop (length (drop 19 ws) - 40) (drop 19 ws))) None (Some p) h) [
       | inl d ↦ let g = kept-cuts (take 19 ws) (take (length (drop 19 ws) - 40) (drop 19 ws)) (drop (length (drop 19 ws) - 40) (drop 19 ws)) p d.1 in
@@ -55,33 +55,33 @@ drop-before b back n e =
     let h : length (b ++ back) - n ≡ length b = omega (arith, length-append b back) in
     ap (λ (k : ℕ). drop k (b ++ back)) h ∙ drop-append_seam b back
 
-kept-own : (p : Pieces) → kept (front_words p) p.behaviour (out_words p ++ in_words p) ≡ Some p
+kept-own : (p : FileWords) → kept (front_words p) p.behaviour (out_words p ++ in_words p) ≡ Some p
 kept-own p = yes (are_same (front_words p) (front_words p) && (are_same (out_words p) (out_words p) && are_same (in_words p) (in_words p))) (Some p) None
     (both-and (are_same (front_words p) (front_words p)) _ (same-own (front_words p)) (both-and (are_same (out_words p) (out_words p)) _ (same-own (out_words p)) (same-own (in_words p))))
 
-long-enough : (p : Pieces) → 59 ≤ length (assembled p)
+long-enough : (p : FileWords) → 59 ≤ length (assembled p)
 long-enough p = omega (arith, length-append p.behaviour (out_words p ++ in_words p))
 
-pub assembled-apart : (p : Pieces) → taken_apart (assembled p) ≡ Some p
+pub assembled-apart : (p : FileWords) → taken_apart (assembled p) ≡ Some p
 assembled-apart p =
     yes (nat_le 59 (length (assembled p))) (kept (front_words p) (take (length (p.behaviour ++ (out_words p ++ in_words p)) - 40) (p.behaviour ++ (out_words p ++ in_words p))) (drop (length (p.behaviour ++ (out_words p ++ in_words p)) - 40) (p.behaviour ++ (out_words p ++ in_words p)))) None (le-true 59 (length (assembled p)) (long-enough p))
     ∙ (ap (λ (q : List (List ℕ)). kept (front_words p) q (drop (length (p.behaviour ++ (out_words p ++ in_words p)) - 40) (p.behaviour ++ (out_words p ++ in_words p)))) (take-before p.behaviour (out_words p ++ in_words p) 40 refl)
     ∙ (ap (λ (q : List (List ℕ)). kept (front_words p) p.behaviour q) (drop-before p.behaviour (out_words p ++ in_words p) 40 refl)
     ∙ kept-own p))
 
-kept-test : (front b back out inn : List (List ℕ)) (p : Pieces) → p ≡ placed front b back → out ≡ take 22 back → inn ≡ drop 22 back
+kept-test : (front b back out inn : List (List ℕ)) (p : FileWords) → p ≡ placed front b back → out ≡ take 22 back → inn ≡ drop 22 back
     → kept front b back ≡ cond (are_same front (front_words p) && (are_same out (out_words p) && are_same inn (in_words p))) (Some p) None
 kept-test front b back out inn p e f g =
-    let test : Pieces → Option Pieces = λ q. cond (are_same front (front_words q) && (are_same (take 22 back) (out_words q) && are_same (drop 22 back) (in_words q))) (Some q) None in
+    let test : FileWords → Option FileWords = λ q. cond (are_same front (front_words q) && (are_same (take 22 back) (out_words q) && are_same (drop 22 back) (in_words q))) (Some q) None in
     ap test (sym e)
     ∙ (ap (λ (q : List (List ℕ)). cond (are_same front (front_words p) && (are_same q (out_words p) && are_same (drop 22 back) (in_words p))) (Some p) None) (sym f)
     ∙ ap (λ (q : List (List ℕ)). cond (are_same front (front_words p) && (are_same out (out_words p) && are_same q (in_words p))) (Some p) None) (sym g))
 
-pub kept-is : (front b back out inn : List (List ℕ)) (p : Pieces) → p ≡ placed front b back → out ≡ take 22 back → inn ≡ drop 22 back
+pub kept-is : (front b back out inn : List (List ℕ)) (p : FileWords) → p ≡ placed front b back → out ≡ take 22 back → inn ≡ drop 22 back
     → (are_same front (front_words p) && (are_same out (out_words p) && are_same inn (in_words p))) ≡ true → kept front b back ≡ Some p
 kept-is front b back out inn p e f g h = kept-test front b back out inn p e f g ∙ yes (are_same front (front_words p) && (are_same out (out_words p) && are_same inn (in_words p))) (Some p) None h
 
-pub kept-not : (front b back out inn : List (List ℕ)) (p : Pieces) → p ≡ placed front b back → out ≡ take 22 back → inn ≡ drop 22 back
+pub kept-not : (front b back out inn : List (List ℕ)) (p : FileWords) → p ≡ placed front b back → out ≡ take 22 back → inn ≡ drop 22 back
     → (are_same front (front_words p) && (are_same out (out_words p) && are_same inn (in_words p))) ≡ false → kept front b back ≡ None
 kept-not front b back out inn p e f g h = kept-test front b back out inn p e f g ∙ no (are_same front (front_words p) && (are_same out (out_words p) && are_same inn (in_words p))) (Some p) None h
 

@@ -9,9 +9,9 @@ use Rattle.txs_terms.specs.Expr.{Expr, val, slot}
 use Rattle.txs_terms.specs.Term.{Position, give, take as taking, Term, stop, prefix, choice}
 use Rattle.txs_terms.specs.Sets.{IsPlain}
 use Rattle.txs_drive.specs.Form.{has_byte, is_worded, is_name, IsName, slot_from, slot_of, IsChannel, IsNumber, offer, Binding, tight, loose, Spells, stops, takes, gives_number, gives_variable, groups, alone, chooses}
-use Rattle.txs_drive.specs.Reading.{are_digits, number_read, name_read, as_number, as_slot, as_taken, as_given, expr_read, position_read, binder, channel_read, Front, Reader, prefixed, step_read, prefix_read, closed, grouped, beside, choice_read, chosen, front_read, entire, behaviour_read}
+use Rattle.txs_drive.specs.inner.Parsing.{are_digits, number_read, name_read, as_number, as_slot, as_taken, as_given, expr_read, position_read, binder, channel_read, Front, Reader, prefixed, step_read, prefix_read, closed, grouped, beside, choice_read, chosen, front_read, entire, behaviour_read}
 use Rattle.txs_drive.proofs.Digits.{digits-here, digits-numeral}
-use Rattle.txs_drive.proofs.Tests.{by-test, and-both, both-and, eq-bytes, bytes-eq, ne-bytes, yes, no}
+use Rattle.txs_values.proofs.Tests.{by-test, and-both, both-and, eq-bytes, bytes-eq, ne-bytes, yes, no}
 
 -- ---- what is read is spelled
 

@@ -6,14 +6,14 @@ use Rattle.txs_outside.specs.Causes.{Rose}
 use Rattle.txs_outside.specs.Known.{Adds}
 use Rattle.txs_drive.specs.declared.doing.Doing.TheVariants.{Dial, Wait, Send, HangUp, Idle}
 use Rattle.txs_drive.specs.declared.note.Seen.{Seen}
-use Rattle.txs_drive.specs.declared.sign.Sign.{Sign}
-use Rattle.txs_drive.specs.declared.sign.Sign.TheVariants as sign
+use Rattle.txs_drive.specs.declared.answer.Answer.{Answer}
+use Rattle.txs_drive.specs.declared.answer.Answer.TheVariants as answer
 use Rattle.txs_drive.specs.declared.model.Model.{Model}
 use Rattle.txs_drive.specs.Lines.{sent_line}
 use Rattle.txs_drive.specs.Session.{Run, State, dial_told, send_told, Heeds, Judges}
-use Rattle.txs_drive.specs.Ready.{ToldBy, HeedsBy, rank}
+use Rattle.txs_drive.specs.inner.Ready.{ToldBy, HeedsBy, rank}
 use Rattle.txs_drive.specs.Course.{dials, waits, sends, Leads, stays, dialling, waiting, sending, entry, ends_of}
-use Rattle.txs_drive.specs.Going.{Called, Waited}
+use Rattle.txs_drive.specs.inner.CarriedOut.{CallAnswered, WaitAnswered}
 
 not_false : (b : Bool) → (b ≡ false → ⊥) → b ≡ true
 not_false true h = refl
@@ -36,7 +36,7 @@ told_run (Some x) go t h = (x, refl, h)
 -- the ends were dialled, or not
 pub called_dial : (m : Model) (s t : State) (u0 u1 : Option (List SutEntry)) (h0 h1 : Option ℕ) (f0 f1 : ℕ) (ok : Bool)
     → s.todo ≡ Dial ∷ [] → ToldBy s.run (λ r. dial_told ok r s) t → Adds u0 u1 (entry h0 (call.Dial (ends_of m) ok) ∷ []) → h1 ≡ h0 → f0 ≤ f1 → (ok ≡ false → Rose f0 f1) → (ok ≡ true → f1 ≡ f0)
-    → Called m s t u0 u1 h0 h1 f0 f1
+    → CallAnswered m s t u0 u1 h0 h1 f0 f1
 called_dial m s t u0 u1 h0 h1 f0 f1 ok e told a h l c k =
     let r = told_run s.run (λ r. dial_told ok r s) t told in
     record {
@@ -55,7 +55,7 @@ called_dial m s t u0 u1 h0 h1 f0 f1 ok e told a h l c k =
 -- a line was sent, or not
 pub called_send : (m : Model) (s t : State) (u0 u1 : Option (List SutEntry)) (h0 h1 : Option ℕ) (f0 f1 : ℕ) (v : ℤ) (ok : Bool)
     → s.todo ≡ Send v ∷ [] → ToldBy s.run (λ r. send_told v ok r s) t → Adds u0 u1 (entry h0 (call.Send 0 (sent_line v) ok) ∷ []) → h1 ≡ h0 → f0 ≤ f1 → (ok ≡ false → Rose f0 f1) → (ok ≡ true → f1 ≡ f0)
-    → Called m s t u0 u1 h0 h1 f0 f1
+    → CallAnswered m s t u0 u1 h0 h1 f0 f1
 called_send m s t u0 u1 h0 h1 f0 f1 v ok e told a h l c k =
     let r = told_run s.run (λ r. send_told v ok r s) t told in
     record {
@@ -71,18 +71,18 @@ called_send m s t u0 u1 h0 h1 f0 f1 v ok e told a h l c k =
       calm = λ n. k (not_false ok (λ z. n (inl z)));
     }
 
-heeds_run : (m : Model) (x : Sign) (r : Option Run) (s t : State) → HeedsBy m x r s t → (q : Run) × (r ≡ Some q) × Heeds m x q s t
+heeds_run : (m : Model) (x : Answer) (r : Option Run) (s t : State) → HeedsBy m x r s t → (q : Run) × (r ≡ Some q) × Heeds m x q s t
 heeds_run m x None s t h = absurd h
 heeds_run m x (Some q) s t h = (q, refl, h)
 
 -- what the system told was heeded
-pub called_wait : (m : Model) (s t : State) (u0 u1 : Option (List SutEntry)) (h0 h1 : Option ℕ) (f0 f1 : ℕ) (x : Sign)
-    → s.todo ≡ Wait ∷ [] → HeedsBy m x s.run s t → Waited u0 u1 h0 f0 f1 x → h1 ≡ h0 → Called m s t u0 u1 h0 h1 f0 f1
+pub called_wait : (m : Model) (s t : State) (u0 u1 : Option (List SutEntry)) (h0 h1 : Option ℕ) (f0 f1 : ℕ) (x : Answer)
+    → s.todo ≡ Wait ∷ [] → HeedsBy m x s.run s t → WaitAnswered u0 u1 h0 f0 f1 x → h1 ≡ h0 → CallAnswered m s t u0 u1 h0 h1 f0 f1
 called_wait m s t u0 u1 h0 h1 f0 f1 x e heeds w h =
     let r = heeds_run m x s.run s t heeds in
     record {
       event = waits w.heard;
-      leads = waiting w.heard r.0 e r.1 (subst (λ (y : Sign). Heeds m y r.0 s t) w.says r.2) stays;
+      leads = waiting w.heard r.0 e r.1 (subst (λ (y : Answer). Heeds m y r.0 s t) w.says r.2) stays;
       read = refl;
       silent = refl;
       stays = refl;
@@ -106,12 +106,12 @@ judged_rank : (m : Model) (x : Seen) (r : Run) (s t : State) → Judges m x r s 
 judged_rank m x r s t (inl h) = by_state _ t 6 h.1 (omega arith)
 judged_rank m x r s t (inr h) = by_state _ t 6 h.1 (omega (arith, rank-hanging (nat_lt 0 r.dialled)))
 
-pub heeded_rank : (m : Model) (x : Sign) (r : Option Run) (s t : State) → HeedsBy m x r s t → rank t.todo < 6
+pub heeded_rank : (m : Model) (x : Answer) (r : Option Run) (s t : State) → HeedsBy m x r s t → rank t.todo < 6
 heeded_rank m x None s t h = absurd h
-heeded_rank m (sign.Number v) (Some r) s t h = judged_rank m _ r s t h
-heeded_rank m sign.Quiet (Some r) s t h = judged_rank m _ r s t h
-heeded_rank m sign.Breaks (Some r) s t h = by_state _ t 6 h (omega (arith, rank-hanging (nat_lt 0 r.dialled)))
-heeded_rank m sign.Later (Some r) s t h = by_state _ t 6 h (omega (arith, rank-hanging (nat_lt 0 r.dialled)))
+heeded_rank m (answer.Number v) (Some r) s t h = judged_rank m _ r s t h
+heeded_rank m answer.Quiet (Some r) s t h = judged_rank m _ r s t h
+heeded_rank m answer.Breaks (Some r) s t h = by_state _ t 6 h (omega (arith, rank-hanging (nat_lt 0 r.dialled)))
+heeded_rank m answer.Later (Some r) s t h = by_state _ t 6 h (omega (arith, rank-hanging (nat_lt 0 r.dialled)))
 
 sent_rank : (v : ℤ) (ok : Bool) (r : Run) (s : State) → rank (send_told v ok r s).todo < 6
 sent_rank v true r s = omega arith

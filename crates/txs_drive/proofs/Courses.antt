@@ -11,7 +11,7 @@ use Rattle.txs_drive.specs.Commands.{command_of}
 use Rattle.txs_drive.specs.Lines.{line_of}
 use Rattle.txs_drive.specs.Session.{State, Carries, done}
 use Rattle.txs_drive.specs.Course.{Event, reads, does', dials, waits, sends, Leads, stays, reading, doing, dialling, waiting, sending, lines_in, notes_of, notes_in, text_of, has_quit, hung_by, hung_after, calls_in, AnyFailed}
-use Rattle.txs_drive.specs.Going.{Went, Called, IsLeft}
+use Rattle.txs_drive.specs.inner.CarriedOut.{CarriedOut, CallAnswered, IsLeft}
 
 -- one course and then another
 pub leads_then : (m : Model) (s t u : State) (a b : List Event) → Leads m s a t → Leads m t b u → Leads m s (a ++ b) u
@@ -91,7 +91,7 @@ left_behind a b n h = (a ++ h.0, ap (λ (q : List Event). a ++ q) h.1 ∙ sym (a
 
 -- one stretch and then another
 pub went_then : (m : Model) (s t v : State) (k0 k1 k2 : Option (List ℕ)) (u0 u1 u2 : Option (List SutEntry)) (h0 h1 h2 : Option ℕ) (f0 f1 f2 : ℕ) (ls ms : List (List ℕ)) (q : Bool)
-    → Went m s t k0 k1 u0 u1 h0 h1 f0 f1 ls false → Went m t v k1 k2 u1 u2 h1 h2 f1 f2 ms q → Went m s v k0 k2 u0 u2 h0 h2 f0 f2 (ls ++ ms) q
+    → CarriedOut m s t k0 k1 u0 u1 h0 h1 f0 f1 ls false → CarriedOut m t v k1 k2 u1 u2 h1 h2 f1 f2 ms q → CarriedOut m s v k0 k2 u0 u2 h0 h2 f0 f2 (ls ++ ms) q
 went_then m s t v k0 k1 k2 u0 u1 u2 h0 h1 h2 f0 f1 f2 ls ms q a b = record {
   events = a.events ++ b.events;
   leads = leads_then m s t v a.events b.events a.leads b.leads;
@@ -109,7 +109,7 @@ went_then m s t v k0 k1 k2 u0 u1 u2 h0 h1 h2 f0 f1 f2 ls ms q a b = record {
 }
 
 -- a line was read
-pub went_line : (m : Model) (s t : State) (k : Option (List ℕ)) (u : Option (List SutEntry)) (h : Option ℕ) (f : ℕ) (line : List ℕ) → s.todo ≡ [] → Carries m (command_of m line) s t → Went m s t k k u u h h f f (line ∷ []) false
+pub went_line : (m : Model) (s t : State) (k : Option (List ℕ)) (u : Option (List SutEntry)) (h : Option ℕ) (f : ℕ) (line : List ℕ) → s.todo ≡ [] → Carries m (command_of m line) s t → CarriedOut m s t k k u u h h f f (line ∷ []) false
 went_line m s t k u h f line e c = record {
   events = reads line ∷ [];
   leads = reading line e c stays;
@@ -125,7 +125,7 @@ went_line m s t k u h f line e c = record {
 }
 
 -- the system was called
-pub went_called : (m : Model) (s t : State) (k : Option (List ℕ)) (u0 u1 : Option (List SutEntry)) (h0 h1 : Option ℕ) (f0 f1 : ℕ) → Called m s t u0 u1 h0 h1 f0 f1 → Went m s t k k u0 u1 h0 h1 f0 f1 [] false
+pub went_called : (m : Model) (s t : State) (k : Option (List ℕ)) (u0 u1 : Option (List SutEntry)) (h0 h1 : Option ℕ) (f0 f1 : ℕ) → CallAnswered m s t u0 u1 h0 h1 f0 f1 → CarriedOut m s t k k u0 u1 h0 h1 f0 f1 [] false
 went_called m s t k u0 u1 h0 h1 f0 f1 c = record {
   events = c.event ∷ [];
   leads = c.leads;
@@ -142,7 +142,7 @@ went_called m s t k u0 u1 h0 h1 f0 f1 c = record {
 
 -- a note was written
 pub went_said : (m : Model) (s t : State) (k0 k1 : Option (List ℕ)) (u : Option (List SutEntry)) (h : Option ℕ) (f : ℕ) (n : Note) (more : List Doing) (text : List ℕ)
-    → s.todo ≡ Say n ∷ more → t ≡ done (Say n) more s → text ≡ line_of m n → Grows k0 k1 text → Went m s t k0 k1 u u h h f f [] false
+    → s.todo ≡ Say n ∷ more → t ≡ done (Say n) more s → text ≡ line_of m n → Grows k0 k1 text → CarriedOut m s t k0 k1 u u h h f f [] false
 went_said m s t k0 k1 u h f n more text e d l w = record {
   events = does' (Say n) ∷ [];
   leads = doing (Say n) more e refl (subst (λ (x : State). Leads m (done (Say n) more s) [] x) (sym d) stays);
@@ -159,7 +159,7 @@ went_said m s t k0 k1 u h f n more text e d l w = record {
 
 -- the ends were hung up
 pub went_hung : (m : Model) (s t : State) (k : Option (List ℕ)) (u0 u1 : Option (List SutEntry)) (h0 h1 : Option ℕ) (f0 f1 : ℕ) (more : List Doing)
-    → s.todo ≡ HangUp ∷ more → t ≡ done HangUp more s → Adds u0 u1 [] → h1 ≡ hung_by HangUp h0 → f1 ≡ f0 → Went m s t k k u0 u1 h0 h1 f0 f1 [] false
+    → s.todo ≡ HangUp ∷ more → t ≡ done HangUp more s → Adds u0 u1 [] → h1 ≡ hung_by HangUp h0 → f1 ≡ f0 → CarriedOut m s t k k u0 u1 h0 h1 f0 f1 [] false
 went_hung m s t k u0 u1 h0 h1 f0 f1 more e d a h f = record {
   events = does' HangUp ∷ [];
   leads = doing HangUp more e refl (subst (λ (x : State). Leads m (done HangUp more s) [] x) (sym d) stays);
@@ -176,7 +176,7 @@ went_hung m s t k u0 u1 h0 h1 f0 f1 more e d a h f = record {
 
 -- a command was carried out
 pub went_idle : (m : Model) (s t : State) (k : Option (List ℕ)) (u : Option (List SutEntry)) (h : Option ℕ) (f : ℕ) (more : List Doing)
-    → s.todo ≡ Idle ∷ more → t ≡ done Idle more s → Went m s t k k u u h h f f [] false
+    → s.todo ≡ Idle ∷ more → t ≡ done Idle more s → CarriedOut m s t k k u u h h f f [] false
 went_idle m s t k u h f more e d = record {
   events = does' Idle ∷ [];
   leads = doing Idle more e refl (subst (λ (x : State). Leads m (done Idle more s) [] x) (sym d) stays);
@@ -193,7 +193,7 @@ went_idle m s t k u h f more e d = record {
 
 -- the session ended
 pub went_quit : (m : Model) (s t : State) (k : Option (List ℕ)) (u : Option (List SutEntry)) (h : Option ℕ) (f : ℕ) (more : List Doing)
-    → s.todo ≡ Quit ∷ more → t ≡ done Quit more s → Went m s t k k u u h h f f [] true
+    → s.todo ≡ Quit ∷ more → t ≡ done Quit more s → CarriedOut m s t k k u u h h f f [] true
 went_quit m s t k u h f more e d = record {
   events = does' Quit ∷ [];
   leads = doing Quit more e refl (subst (λ (x : State). Leads m (done Quit more s) [] x) (sym d) stays);
@@ -209,7 +209,7 @@ went_quit m s t k u h f more e d = record {
 }
 
 -- nothing happened
-pub went_nowhere : (m : Model) (s : State) (k : Option (List ℕ)) (u : Option (List SutEntry)) (h : Option ℕ) (f : ℕ) → Went m s s k k u u h h f f [] false
+pub went_nowhere : (m : Model) (s : State) (k : Option (List ℕ)) (u : Option (List SutEntry)) (h : Option ℕ) (f : ℕ) → CarriedOut m s s k k u u h h f f [] false
 went_nowhere m s k u h f = record {
   events = [];
   leads = stays;

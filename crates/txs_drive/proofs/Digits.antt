@@ -1,10 +1,8 @@
 -- What digits and names are made of, and what parsing gives of them.
 use Rattle.std.proofs.Common.{◌≡◌, ℕ, ℤ, pos, ◌<◌, ◌^◌, Bool, true, false, cond, ◌&&◌, nat_lt, List, [], ◌∷◌, length, Option, Some, None, Result, Ok, Err, refl, sym, ◌∙◌, ap, arith}
-use Rattle.std.proofs.lemmas.Bool.Decides.{nat_tests, Decides-ltb}
 use Rattle.std.proofs.lemmas.Str.{IsUtf8-from_ascii}
 use Rattle.std.proofs.lemmas.Str.Ascii.{IsAscii-nil, IsAscii-cons}
-use Rattle.std.proofs.lemmas.Str.Parse.{IsNumeralModel, numerals_by_value, tells_digits, parse_digits, parse_signed_digits}
-use Rattle.std.specs.Char.{digit_value}
+use Rattle.std.proofs.lemmas.Str.Parse.{parse_digits, parse_signed_digits}
 use Rattle.std.specs.Int.{w128}
 use Rattle.std.specs.List.{list_all}
 use Rattle.std.specs.Result.{OkIff}
@@ -12,19 +10,11 @@ use Rattle.std.specs.Str.{IsAscii, IsUtf8}
 use Rattle.std.specs.Str.Parse.{AllDigits, IsNumeral, digits_value, ParsesUnsigned, ParsesSigned}
 use Rattle.txs_values.specs.Spelling.{is_digit, is_letter, is_name_byte}
 use Rattle.txs_drive.specs.Form.{is_worded, is_name}
-use Rattle.txs_drive.specs.Reading.{are_digits, number_read, port_read, nonzero}
-use Rattle.txs_drive.proofs.Tests.{and-both, both-and, yes, no}
+use Rattle.txs_drive.specs.inner.Parsing.{are_digits, number_read, port_read, nonzero}
+use Rattle.txs_values.proofs.Tests.{and-both, both-and, yes, no, if-not, lt-true, true-lt}
+use Rattle.txs_values.proofs.Digits.{letter-ascii, name_byte-ascii, digit-ascii, digit-value, numerals, parsed}
 
 -- ---- ASCII
-
-letter-ascii : (b : ℕ) → is_letter b ≡ true → b < 128
-letter-ascii b h = grind (arith, nat_tests)
-
-name_byte-ascii : (b : ℕ) → is_name_byte b ≡ true → b < 128
-name_byte-ascii b h = grind (arith, nat_tests)
-
-digit-ascii : (b : ℕ) → is_digit b ≡ true → b < 128
-digit-ascii b h = grind (arith, nat_tests)
 
 name_bytes-ascii : (bs : List ℕ) → list_all is_name_byte bs ≡ true → IsAscii bs
 name_bytes-ascii [] h = IsAscii-nil
@@ -47,9 +37,6 @@ digits-utf8 (b ∷ bs) h = IsUtf8-from_ascii (b ∷ bs) (all_digits-ascii (b ∷
 
 -- ---- numerals
 
-digit-value : (b : ℕ) → is_digit b ≡ true → digit_value b < 10
-digit-value b h = grind (arith, nat_tests)
-
 all_digits-numeral : (bs : List ℕ) → list_all is_digit bs ≡ true → AllDigits 10 bs
 all_digits-numeral [] h = tt
 all_digits-numeral (b ∷ bs) h = let p = and-both (is_digit b) (list_all is_digit bs) h in (digit-value b p.0, all_digits-numeral bs p.1)
@@ -62,28 +49,16 @@ pub digits-here : (w : List ℕ) → list_all is_digit w ≡ true → 0 < length
 digits-here [] h k = absurd (omega arith)
 digits-here (b ∷ bs) h k = h
 
-numerals : IsNumeralModel (AllDigits 10) (digits_value 10)
-numerals = numerals_by_value (AllDigits 10) tells_digits
-
 -- ---- parsing
 
-lt-true : (m n : ℕ) → m < n → nat_lt m n ≡ true
-lt-true m n h = (Decides-ltb m n).1 h
-
-lt-false : (m n : ℕ) (t : Bool) → nat_lt m n ≡ t → (m < n → ⊥) → nat_lt m n ≡ false
-lt-false m n true e h = absurd (h ((Decides-ltb m n).0 e))
-lt-false m n false e h = e
+not-less : (m n : ℕ) → (m < n → ⊥) → nat_lt m n ≡ false
+not-less m n h = if-not (nat_lt m n) (λ k. h (true-lt m n k))
 
 number-some : (w : List ℕ) (n : ℤ) → are_digits w ≡ true → digits_value 10 w < 2 ^ 127 → n ≡ pos (digits_value 10 w) → Some n ≡ number_read w
 number-some w n d h e = ap Some e ∙ sym (yes (are_digits w && nat_lt (digits_value 10 w) (2 ^ 127)) (Some (pos (digits_value 10 w))) None (both-and (are_digits w) _ d (lt-true (digits_value 10 w) (2 ^ 127) h)))
 
 number-none : (w : List ℕ) → are_digits w ≡ true → (digits_value 10 w < 2 ^ 127 → ⊥) → None ≡ number_read w
-number-none w d h = sym (no (are_digits w && nat_lt (digits_value 10 w) (2 ^ 127)) (Some (pos (digits_value 10 w))) None (ap (λ (t : Bool). t && nat_lt (digits_value 10 w) (2 ^ 127)) d ∙ lt-false (digits_value 10 w) (2 ^ 127) (nat_lt (digits_value 10 w) (2 ^ 127)) refl h))
-
--- what a result of parsing is as an option
-abbrev pub parsed : {E A : Type 0} → Result A E → Option A
-parsed (Ok x) = Some x
-parsed (Err e) = None
+number-none w d h = sym (no (are_digits w && nat_lt (digits_value 10 w) (2 ^ 127)) (Some (pos (digits_value 10 w))) None (ap (λ (t : Bool). t && nat_lt (digits_value 10 w) (2 ^ 127)) d ∙ not-less (digits_value 10 w) (2 ^ 127) h))
 
 signed-parsed : {E : Type 0} (w : List ℕ) (r : Result ℤ E) → are_digits w ≡ true → OkIff r ((0 < length w) × (digits_value 10 w < 2 ^ 127)) (pos (digits_value 10 w)) → parsed r ≡ number_read w
 signed-parsed w (Ok n) d h = number-some w n d h.0.1 h.1
@@ -98,7 +73,7 @@ within_port w = cond (are_digits w && nat_lt (digits_value 10 w) (2 ^ 16)) (Some
 
 port-parsed : {E : Type 0} (w : List ℕ) (r : Result ℕ E) → are_digits w ≡ true → OkIff r ((0 < length w) × (digits_value 10 w < 2 ^ 16)) (digits_value 10 w) → parsed r ≡ within_port w
 port-parsed w (Ok n) d h = ap Some h.1 ∙ sym (yes (are_digits w && nat_lt (digits_value 10 w) (2 ^ 16)) (Some (digits_value 10 w)) None (both-and (are_digits w) _ d (lt-true (digits_value 10 w) (2 ^ 16) h.0.1)))
-port-parsed w (Err e) d h = sym (no (are_digits w && nat_lt (digits_value 10 w) (2 ^ 16)) (Some (digits_value 10 w)) None (ap (λ (t : Bool). t && nat_lt (digits_value 10 w) (2 ^ 16)) d ∙ lt-false (digits_value 10 w) (2 ^ 16) (nat_lt (digits_value 10 w) (2 ^ 16)) refl (λ k. h ((digits-numeral w d).0, k))))
+port-parsed w (Err e) d h = sym (no (are_digits w && nat_lt (digits_value 10 w) (2 ^ 16)) (Some (digits_value 10 w)) None (ap (λ (t : Bool). t && nat_lt (digits_value 10 w) (2 ^ 16)) d ∙ not-less (digits_value 10 w) (2 ^ 16) (λ k. h ((digits-numeral w d).0, k))))
 
 then-nonzero : (t : Bool) (n : ℕ) (o : Option ℕ) → o ≡ cond t (Some n) None → (p : ℕ) → o ≡ Some p → nonzero p ≡ cond t (nonzero n) None
 then-nonzero true n o e p f = let q : p ≡ n = cc in ap nonzero q

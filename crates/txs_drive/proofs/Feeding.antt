@@ -6,7 +6,7 @@ use Rattle.txs_outside.specs.declared.sut.SutEntry.{SutEntry}
 use Rattle.txs_drive.specs.declared.model.Model.{Model}
 use Rattle.txs_drive.specs.Session.{State}
 use Rattle.txs_drive.specs.Served.{Ending, onto_first, parts, last_part, lines_of_parts, command_lines}
-use Rattle.txs_drive.specs.Going.{HasNoFeed, joined, Went, Took}
+use Rattle.txs_drive.specs.inner.CarriedOut.{HasNoFeed, joined, CarriedOut, LinesCarriedOut}
 use Rattle.txs_drive.proofs.Courses.{went_then, went_nowhere}
 
 pub all-append : {X : Type 0} (P : X → Type 0) (xs ys : List X) → AllByRecursion P xs → AllByRecursion P ys → AllByRecursion P (xs ++ ys)
@@ -70,12 +70,12 @@ commands_part e rest h = ap (lines_of_parts e) (parts_part rest h)
 -- ---- what was taken
 
 -- nothing but a part of a line
-pub took_part : (m : Model) (s : State) (k : Option (List ℕ)) (u : Option (List SutEntry)) (h : Option ℕ) (f : ℕ) (bytes : List ℕ) → Took m s s k k u u h h f f bytes bytes false
+pub took_part : (m : Model) (s : State) (k : Option (List ℕ)) (u : Option (List SutEntry)) (h : Option ℕ) (f : ℕ) (bytes : List ℕ) → LinesCarriedOut m s s k k u u h h f f bytes bytes false
 took_part m s k u h f bytes = record { lines = []; split = refl; each = tt; went = went_nowhere m s k u h f }
 
 -- one line
 pub took_line : (m : Model) (s t : State) (k0 k1 : Option (List ℕ)) (u0 u1 : Option (List SutEntry)) (h0 h1 : Option ℕ) (f0 f1 : ℕ) (line rest : List ℕ) (b : ℕ) (q : Bool)
-    → HasNoFeed line → b ≡ 10 → rest ≡ [] → Went m s t k0 k1 u0 u1 h0 h1 f0 f1 (line ∷ []) q → Took m s t k0 k1 u0 u1 h0 h1 f0 f1 (line ++ b ∷ []) rest q
+    → HasNoFeed line → b ≡ 10 → rest ≡ [] → CarriedOut m s t k0 k1 u0 u1 h0 h1 f0 f1 (line ∷ []) q → LinesCarriedOut m s t k0 k1 u0 u1 h0 h1 f0 f1 (line ++ b ∷ []) rest q
 took_line m s t k0 k1 u0 u1 h0 h1 f0 f1 line rest b q nf e n w = record {
   lines = line ∷ [];
   split = ap (λ (c : ℕ). line ++ c ∷ []) e ∙ (sym (append-nil (line ++ 10 ∷ [])) ∙ ap (λ (r : List ℕ). (line ++ 10 ∷ []) ++ r) (sym n));
@@ -85,7 +85,7 @@ took_line m s t k0 k1 u0 u1 h0 h1 f0 f1 line rest b q nf e n w = record {
 
 -- one stretch of bytes and then another
 pub took_then : (m : Model) (s t v : State) (k0 k1 k2 : Option (List ℕ)) (u0 u1 u2 : Option (List SutEntry)) (h0 h1 h2 : Option ℕ) (f0 f1 f2 : ℕ) (a b r w : List ℕ) (q : Bool)
-    → Took m s t k0 k1 u0 u1 h0 h1 f0 f1 a r false → Took m t v k1 k2 u1 u2 h1 h2 f1 f2 (r ++ b) w q → Took m s v k0 k2 u0 u2 h0 h2 f0 f2 (a ++ b) w q
+    → LinesCarriedOut m s t k0 k1 u0 u1 h0 h1 f0 f1 a r false → LinesCarriedOut m t v k1 k2 u1 u2 h1 h2 f1 f2 (r ++ b) w q → LinesCarriedOut m s v k0 k2 u0 u2 h0 h2 f0 f2 (a ++ b) w q
 took_then m s t v k0 k1 k2 u0 u1 u2 h0 h1 h2 f0 f1 f2 a b r w q x y = record {
   lines = x.lines ++ y.lines;
   split = ap (λ (z : List ℕ). z ++ b) x.split ∙ (append_assoc (joined x.lines) r b ∙ (ap (λ (z : List ℕ). joined x.lines ++ z) y.split
@@ -96,7 +96,7 @@ took_then m s t v k0 k1 k2 u0 u1 u2 h0 h1 h2 f0 f1 f2 a b r w q x y = record {
 
 -- what follows stays behind
 pub took_more : (m : Model) (s t : State) (k0 k1 : Option (List ℕ)) (u0 u1 : Option (List SutEntry)) (h0 h1 : Option ℕ) (f0 f1 : ℕ) (a r d : List ℕ) (q : Bool)
-    → Took m s t k0 k1 u0 u1 h0 h1 f0 f1 a r q → Took m s t k0 k1 u0 u1 h0 h1 f0 f1 (a ++ d) (r ++ d) q
+    → LinesCarriedOut m s t k0 k1 u0 u1 h0 h1 f0 f1 a r q → LinesCarriedOut m s t k0 k1 u0 u1 h0 h1 f0 f1 (a ++ d) (r ++ d) q
 took_more m s t k0 k1 u0 u1 h0 h1 f0 f1 a r d q x = record {
   lines = x.lines;
   split = ap (λ (z : List ℕ). z ++ d) x.split ∙ append_assoc (joined x.lines) r d;
@@ -104,10 +104,10 @@ took_more m s t k0 k1 u0 u1 h0 h1 f0 f1 a r d q x = record {
   went = x.went;
 }
 
--- one byte more of a piece
-pub take_step : (p piece : List ℕ) (i : ℕ) → i < length piece → (p ++ take i piece) ++ get_or piece i 0 ∷ [] ≡ p ++ take (i + 1) piece
-take_step p piece i h = append_assoc p (take i piece) (get_or piece i 0 ∷ []) ∙ ap (λ (z : List ℕ). p ++ z) (sym (take_more piece i 0 h))
+-- one byte more of a read
+pub take_step : (p got : List ℕ) (i : ℕ) → i < length got → (p ++ take i got) ++ get_or got i 0 ∷ [] ≡ p ++ take (i + 1) got
+take_step p got i h = append_assoc p (take i got) (get_or got i 0 ∷ []) ∙ ap (λ (z : List ℕ). p ++ z) (sym (take_more got i 0 h))
 
--- all of a piece
-pub take_rest : (p piece : List ℕ) (i : ℕ) → (p ++ take i piece) ++ drop i piece ≡ p ++ piece
-take_rest p piece i = append_assoc p (take i piece) (drop i piece) ∙ ap (λ (z : List ℕ). p ++ z) (take-append-drop i piece)
+-- all of a read
+pub take_rest : (p got : List ℕ) (i : ℕ) → (p ++ take i got) ++ drop i got ≡ p ++ got
+take_rest p got i = append_assoc p (take i got) (drop i got) ∙ ap (λ (z : List ℕ). p ++ z) (take-append-drop i got)

@@ -10,23 +10,23 @@ use Rattle.txs_drive.specs.declared.load_fault.LoadFault.TheVariants.{Later, NoM
 use Rattle.txs_drive.specs.declared.model.Model.{Model}
 use Rattle.txs_drive.specs.File.{IsFile, SaysSame, StatesOnly, quoted}
 use Rattle.txs_drive.specs.Form.{words_of}
-use Rattle.txs_drive.specs.Pieces.{Pieces, Parts, parts_of, assembled, out_words, in_words, taken_apart, host_read, same_port, are_named, is_in_form, joined, model_read, of_pieces, words_read}
-use Rattle.txs_drive.specs.Reading.{Reads, behaviour_read, port_read}
+use Rattle.txs_drive.specs.inner.FileWords.{FileWords, Parts, parts_of, assembled, out_words, in_words, taken_apart, host_read, same_port, are_named, is_in_form, joined, model_read, of_file_words, words_read}
+use Rattle.txs_drive.specs.inner.Parsing.{Reads, behaviour_read, port_read}
 use Rattle.txs_drive.proofs.Apart.{apart-assembled, assembled-apart}
 use Rattle.txs_drive.proofs.Behaviours.{read-spells, spells-read, spells-plain}
 use Rattle.txs_drive.proofs.Parts.{host-quoted, quoted-host, ports-spelled, ports-read, named-each, each-named}
-use Rattle.txs_drive.proofs.Tests.{by-test, le-true, true-le, and-both, both-and, ne-bytes, bytes-eq, not-both, yes}
+use Rattle.txs_values.proofs.Tests.{by-test, le-true, true-le, and-both, both-and, ne-bytes, bytes-eq, not-both, yes}
 use Rattle.txs_drive.proofs.Texts.{texts-behind}
 
 -- the host among words that are texts
-pub host-utf8 : (words : List (List ℕ)) (p : Pieces) → AllByRecursion IsUtf8 words → taken_apart words ≡ Some p → IsUtf8 p.host
+pub host-utf8 : (words : List (List ℕ)) (p : FileWords) → AllByRecursion IsUtf8 words → taken_apart words ≡ Some p → IsUtf8 p.host
 host-utf8 words p u e =
     let all = subst (λ (ws : List (List ℕ)). AllByRecursion IsUtf8 ws) (apart-assembled words p e) u in
     let back = texts-behind p.behaviour (out_words p ++ in_words p) all.1.1.1.1.1.1.1.1.1.1.1.1.1.1.1.1.1.1.1 in
     back.1.1.1.1.1.1.1.1.1.0
 
--- the facts that a file states of its pieces
-pub record States (p : Pieces) (q : Parts) : Type 0 where
+-- the facts that a file states of its words
+pub record States (p : FileWords) (q : Parts) : Type 0 where
   pub form : is_in_form p ≡ true
   pub port : same_port (port_read p.port_out) (port_read p.port_in) ≡ Some q.port
   pub host : host_read p.host ≡ Some q.host
@@ -36,7 +36,7 @@ pub record States (p : Pieces) (q : Parts) : Type 0 where
   pub name : p.name ≡ q.name
   pub link : p.link ≡ q.link
 
-joined-states : (p : Pieces) (q : Parts) (f : is_in_form p ≡ true) (port : Option ℕ) (host : Option (List ℕ)) (start : Option Term)
+joined-states : (p : FileWords) (q : Parts) (f : is_in_form p ≡ true) (port : Option ℕ) (host : Option (List ℕ)) (start : Option Term)
     → same_port (port_read p.port_out) (port_read p.port_in) ≡ port → host_read p.host ≡ host → behaviour_read p.input p.output p.behaviour ≡ start
     → joined p port host start ≡ Some q → States p q
 joined-states p q f None host start a b c h = absurd (cc)
@@ -55,29 +55,29 @@ joined-states p q f (Some port) (Some host) (Some start) a b c h =
       link = ap (λ (z : Parts). z.link) e;
     }
 
-read-states : (p : Pieces) (q : Parts) → model_read p ≡ Some q → States p q
+read-states : (p : FileWords) (q : Parts) → model_read p ≡ Some q → States p q
 read-states p q h = elim (by-test (is_in_form p) (joined p (same_port (port_read p.port_out) (port_read p.port_in)) (host_read p.host) (behaviour_read p.input p.output p.behaviour)) None (Some q) h) [
   | inl d ↦ joined-states p q d.0 (same_port (port_read p.port_out) (port_read p.port_in)) (host_read p.host) (behaviour_read p.input p.output p.behaviour) refl refl refl d.1
   | inr d ↦ absurd (cc)
 ]
 
-pub form-channels : (p : Pieces) → is_in_form p ≡ true → (are_named p ≡ true) × (p.input ≢ p.output) × (length p.behaviour ≤ 400)
+pub form-channels : (p : FileWords) → is_in_form p ≡ true → (are_named p ≡ true) × (p.input ≢ p.output) × (length p.behaviour ≤ 400)
 form-channels p h =
     let f = and-both (are_named p) _ h in
     let g = and-both (not (bytes_eq p.input p.output)) (nat_le (length p.behaviour) 400) f.1 in
     (f.0, (λ q. not-both (bytes_eq p.input p.output) g.0 (bytes-eq p.input p.output q)), true-le (length p.behaviour) 400 g.1)
 
--- pieces with the names of the model
-pub record Named (p : Pieces) (m : Model) : Type 0 where
+-- words with the names of the model
+pub record Named (p : FileWords) (m : Model) : Type 0 where
   pub input : p.input ≡ m.input
   pub output : p.output ≡ m.output
   pub name : p.name ≡ m.name
   pub link : p.link ≡ m.link
   pub host : p.host ≡ quoted m.host
 
--- the pieces of a model
-abbrev pub pieces_for : Model → List ℕ → List (List ℕ) → List ℕ → List ℕ → List ℕ → List ℕ → Pieces
-pieces_for m chandef behaviour out inn sent heard = record {
+-- the words of a model
+abbrev pub file_words_for : Model → List ℕ → List (List ℕ) → List ℕ → List ℕ → List ℕ → List ℕ → FileWords
+file_words_for m chandef behaviour out inn sent heard = record {
   chandef = chandef;
   input = m.input;
   output = m.output;
@@ -91,9 +91,9 @@ pieces_for m chandef behaviour out inn sent heard = record {
   heard = heard;
 }
 
-own-pieces : (p : Pieces) (m : Model) → Named p m → p ≡ pieces_for m p.chandef p.behaviour p.port_out p.port_in p.sent p.heard
-own-pieces p m n =
-    let made : List ℕ → List ℕ → List ℕ → List ℕ → List ℕ → Pieces = λ i o k l h. record {
+own-words : (p : FileWords) (m : Model) → Named p m → p ≡ file_words_for m p.chandef p.behaviour p.port_out p.port_in p.sent p.heard
+own-words p m n =
+    let made : List ℕ → List ℕ → List ℕ → List ℕ → List ℕ → FileWords = λ i o k l h. record {
       chandef = p.chandef;
       input = i;
       output = o;
@@ -112,15 +112,15 @@ own-pieces p m n =
     ∙ (ap (λ (z : List ℕ). made m.input m.output m.name z p.host) n.link
     ∙ ap (λ (z : List ℕ). made m.input m.output m.name m.link z) n.host)))
 
--- a file, of pieces that are those of the model
+-- a file, of words that are those of the model
 made-file : (bytes : List ℕ) (m : Model) (chandef : List ℕ) (b : List (List ℕ)) (out inn sent heard : List ℕ) → IsUtf8 bytes
-    → words_of bytes ≡ assembled (pieces_for m chandef b out inn sent heard)
-    → model_read (pieces_for m chandef b out inn sent heard) ≡ Some (parts_of m) → IsFile bytes m
+    → words_of bytes ≡ assembled (file_words_for m chandef b out inn sent heard)
+    → model_read (file_words_for m chandef b out inn sent heard) ≡ Some (parts_of m) → IsFile bytes m
 made-file bytes m chandef b out inn sent heard u w h =
-    let p : Pieces = pieces_for m chandef b out inn sent heard in
-    let s = read-states (pieces_for m chandef b out inn sent heard) (parts_of m) h in
-    let f = form-channels (pieces_for m chandef b out inn sent heard) s.form in
-    let n = named-each (pieces_for m chandef b out inn sent heard) f.0 in
+    let p : FileWords = file_words_for m chandef b out inn sent heard in
+    let s = read-states (file_words_for m chandef b out inn sent heard) (parts_of m) h in
+    let f = form-channels (file_words_for m chandef b out inn sent heard) s.form in
+    let n = named-each (file_words_for m chandef b out inn sent heard) f.0 in
     record {
       chandef = chandef;
       behaviour = b;
@@ -138,53 +138,53 @@ made-file bytes m chandef b out inn sent heard u w h =
       ports = ports-spelled out inn m.port s.port;
     }
 
-pub read-file : (bytes : List ℕ) (m : Model) (p : Pieces) → IsUtf8 bytes → taken_apart (words_of bytes) ≡ Some p → model_read p ≡ Some (parts_of m) → IsFile bytes m
+pub read-file : (bytes : List ℕ) (m : Model) (p : FileWords) → IsUtf8 bytes → taken_apart (words_of bytes) ≡ Some p → model_read p ≡ Some (parts_of m) → IsFile bytes m
 read-file bytes m p u e h =
     let s = read-states p (parts_of m) h in
     let n : Named p m = record { input = s.input; output = s.output; name = s.name; link = s.link; host = (host-quoted p.host m.host s.host).0 } in
-    let q = own-pieces p m n in
+    let q = own-words p m n in
     made-file bytes m p.chandef p.behaviour p.port_out p.port_in p.sent p.heard u
     (apart-assembled (words_of bytes) p e ∙ ap assembled q)
-    (subst (λ (z : Pieces). model_read z ≡ Some (parts_of m)) q h)
+    (subst (λ (z : FileWords). model_read z ≡ Some (parts_of m)) q h)
 
-states-joined : (p : Pieces) (q : Parts) (port : Option ℕ) (host : Option (List ℕ)) (start : Option Term) → port ≡ Some q.port → host ≡ Some q.host → start ≡ Some q.start
+states-joined : (p : FileWords) (q : Parts) (port : Option ℕ) (host : Option (List ℕ)) (start : Option Term) → port ≡ Some q.port → host ≡ Some q.host → start ≡ Some q.start
     → joined p port host start ≡ Some (record { input = p.input; output = p.output; name = p.name; link = p.link; host = q.host; port = q.port; start = q.start })
 states-joined p q port host start a b c =
     ap (λ (z : Option ℕ). joined p z host start) a ∙ (ap (λ (z : Option (List ℕ)). joined p (Some q.port) z start) b ∙ ap (λ (z : Option Term). joined p (Some q.port) (Some q.host) z) c)
 
-file-form : (p : Pieces) → are_named p ≡ true → p.input ≢ p.output → length p.behaviour ≤ 400 → is_in_form p ≡ true
+file-form : (p : FileWords) → are_named p ≡ true → p.input ≢ p.output → length p.behaviour ≤ 400 → is_in_form p ≡ true
 file-form p n d s =
     both-and (are_named p) _ n (both-and (not (bytes_eq p.input p.output)) _ (ap not (ne-bytes p.input p.output d (bytes_eq p.input p.output) refl)) (le-true (length p.behaviour) 400 s))
 
--- the pieces of a file, which is read as its model
-pub file-read : (bytes : List ℕ) (m : Model) → IsFile bytes m → (p : Pieces) × (taken_apart (words_of bytes) ≡ Some p) × (model_read p ≡ Some (parts_of m))
+-- the words of a file, which is read as its model
+pub file-read : (bytes : List ℕ) (m : Model) → IsFile bytes m → (p : FileWords) × (taken_apart (words_of bytes) ≡ Some p) × (model_read p ≡ Some (parts_of m))
 file-read bytes m f =
-    let form = file-form (pieces_for m f.chandef f.behaviour f.port_out f.port_in f.sent f.heard) (each-named (pieces_for m f.chandef f.behaviour f.port_out f.port_in f.sent f.heard) f.names) f.channels f.short in (
-      pieces_for m f.chandef f.behaviour f.port_out f.port_in f.sent f.heard,
-      ap taken_apart f.words ∙ assembled-apart (pieces_for m f.chandef f.behaviour f.port_out f.port_in f.sent f.heard),
-      yes (is_in_form (pieces_for m f.chandef f.behaviour f.port_out f.port_in f.sent f.heard)) _ None form
-          ∙ states-joined (pieces_for m f.chandef f.behaviour f.port_out f.port_in f.sent f.heard) (parts_of m) _ _ _ (ports-read f.port_out f.port_in m.port f.ports.0 f.ports.1) (quoted-host m.host f.host) (spells-read m.input m.output f.names.1 f.names.2 f.channels f.behaviour (term_of m.start) f.spelled),
+    let form = file-form (file_words_for m f.chandef f.behaviour f.port_out f.port_in f.sent f.heard) (each-named (file_words_for m f.chandef f.behaviour f.port_out f.port_in f.sent f.heard) f.names) f.channels f.short in (
+      file_words_for m f.chandef f.behaviour f.port_out f.port_in f.sent f.heard,
+      ap taken_apart f.words ∙ assembled-apart (file_words_for m f.chandef f.behaviour f.port_out f.port_in f.sent f.heard),
+      yes (is_in_form (file_words_for m f.chandef f.behaviour f.port_out f.port_in f.sent f.heard)) _ None form
+          ∙ states-joined (file_words_for m f.chandef f.behaviour f.port_out f.port_in f.sent f.heard) (parts_of m) _ _ _ (ports-read f.port_out f.port_in m.port f.ports.0 f.ports.1) (quoted-host m.host f.host) (spells-read m.input m.output f.names.1 f.names.2 f.channels f.behaviour (term_of m.start) f.spelled),
     )
 
 pub file-plain : (bytes : List ℕ) (m : Model) → IsFile bytes m → IsPlain 0 (term_of m.start)
 file-plain bytes m f = spells-plain m.input m.output f.spelled
 
-read-pieces : (o : Option Pieces) (q : Parts) → of_pieces o ≡ Some q → (p : Pieces) × (o ≡ Some p) × (model_read p ≡ Some q)
-read-pieces None q h = absurd (cc)
-read-pieces (Some p) q h = (p, refl, h)
+read-words : (o : Option FileWords) (q : Parts) → of_file_words o ≡ Some q → (p : FileWords) × (o ≡ Some p) × (model_read p ≡ Some q)
+read-words None q h = absurd (cc)
+read-words (Some p) q h = (p, refl, h)
 
 pub ok-file : (bytes : List ℕ) (r : Result Model LoadFault) → IsUtf8 bytes → Reads parts_of r (words_read (words_of bytes)) → IfOk r (λ m. IsFile bytes m)
-ok-file bytes (Ok m) u h = let g = read-pieces (taken_apart (words_of bytes)) (parts_of m) h in read-file bytes m g.0 u g.1 g.2
+ok-file bytes (Ok m) u h = let g = read-words (taken_apart (words_of bytes)) (parts_of m) h in read-file bytes m g.0 u g.1 g.2
 ok-file bytes (Err e) u h = tt
 
 pub plain-file : (bytes : List ℕ) (r : Result Model LoadFault) → IsUtf8 bytes → Reads parts_of r (words_read (words_of bytes)) → IfOk r (λ m. IsPlain 0 (term_of m.start))
-plain-file bytes (Ok m) u h = let g = read-pieces (taken_apart (words_of bytes)) (parts_of m) h in file-plain bytes m (read-file bytes m g.0 u g.1 g.2)
+plain-file bytes (Ok m) u h = let g = read-words (taken_apart (words_of bytes)) (parts_of m) h in file-plain bytes m (read-file bytes m g.0 u g.1 g.2)
 plain-file bytes (Err e) u h = tt
 
 unread : (bytes : List ℕ) (m : Model) → words_read (words_of bytes) ≡ None → IsFile bytes m → ⊥
 unread bytes m h f =
     let g = file-read bytes m f in
-    none-some (parts_of m) (words_read (words_of bytes)) h (ap of_pieces g.1 ∙ g.2)
+    none-some (parts_of m) (words_read (words_of bytes)) h (ap of_file_words g.1 ∙ g.2)
   where
     none-some : (q : Parts) (o : Option Parts) → o ≡ None → o ≡ Some q → ⊥
     none-some q o e f = absurd (cc)
@@ -206,7 +206,7 @@ parts-same m n e = record {
 }
 
 -- two readings of one file are the same
-one-reading : (a : Option Pieces) (p q : Pieces) (x y : Parts) → a ≡ Some p → a ≡ Some q → model_read p ≡ Some x → model_read q ≡ Some y → x ≡ y
+one-reading : (a : Option FileWords) (p q : FileWords) (x y : Parts) → a ≡ Some p → a ≡ Some q → model_read p ≡ Some x → model_read q ≡ Some y → x ≡ y
 one-reading a p q x y e f g h =
     let s : p ≡ q = cc in
     let t : Some x ≡ Some y = sym g ∙ (ap model_read s ∙ h) in

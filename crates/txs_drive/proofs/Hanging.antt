@@ -8,10 +8,10 @@ use Rattle.txs_drive.specs.declared.doing.Doing.TheVariants.{Say, Dial, Wait, Se
 use Rattle.txs_drive.specs.declared.note.Note.TheVariants as note
 use Rattle.txs_drive.specs.declared.note.Seen.{Seen}
 use Rattle.txs_drive.specs.declared.note.Seen.TheVariants as seen
-use Rattle.txs_drive.specs.declared.sign.Sign.{Sign}
-use Rattle.txs_drive.specs.declared.sign.Sign.TheVariants as sign
+use Rattle.txs_drive.specs.declared.answer.Answer.{Answer}
+use Rattle.txs_drive.specs.declared.answer.Answer.TheVariants as answer
 use Rattle.txs_drive.specs.Commands.{command_of}
-use Rattle.txs_drive.specs.Session.{Run, State, first, does, Carries, IfGoing, Stimulates, Heeds, Judges, dial_told, send_told, sign_of, done, hanging, dialled_of, hung_run, started}
+use Rattle.txs_drive.specs.Session.{Run, State, at_start, does, Carries, IfGoing, Stimulates, Heeds, Judges, dial_told, send_told, answer_of, done, hanging, dialled_of, hung_run, started}
 use Rattle.txs_drive.specs.Course.{Event, reads, does', dials, waits, sends, Leads, stays, reading, doing, dialling, waiting, sending, asks_nothing, dialled_in, hung_in}
 use Rattle.txs_drive.specs.Served.{last_of}
 use Rattle.txs_drive.specs.Cut.{IsUnheeded, dialled_by}
@@ -94,13 +94,13 @@ judges_stands : (m : Model) (x : Seen) (r : Run) (s t : State) → r.dialled ≤
 judges_stands m x r s t w (inl h) = subst (Stands r.dialled) (sym h.1) (refl, w)
 judges_stands m x r s t w (inr h) = subst (Stands r.dialled) (sym h.1) (refl, ending_suits r.dialled w)
 
-heeds_stands : (m : Model) (x : Sign) (r : Run) (s t : State) → r.dialled ≤ 1 → Heeds m x r s t → Stands r.dialled t
-heeds_stands m (sign.Number v) r s t w h = judges_stands m (seen.Out v) r s t w h
-heeds_stands m sign.Quiet r s t w h = judges_stands m seen.Quiet r s t w h
-heeds_stands m sign.Breaks r s t w h = subst (Stands r.dialled) (sym h) (refl, ending_suits r.dialled w)
-heeds_stands m sign.Later r s t w h = subst (Stands r.dialled) (sym h) (refl, ending_suits r.dialled w)
+heeds_stands : (m : Model) (x : Answer) (r : Run) (s t : State) → r.dialled ≤ 1 → Heeds m x r s t → Stands r.dialled t
+heeds_stands m (answer.Number v) r s t w h = judges_stands m (seen.Out v) r s t w h
+heeds_stands m answer.Quiet r s t w h = judges_stands m seen.Quiet r s t w h
+heeds_stands m answer.Breaks r s t w h = subst (Stands r.dialled) (sym h) (refl, ending_suits r.dialled w)
+heeds_stands m answer.Later r s t w h = subst (Stands r.dialled) (sym h) (refl, ending_suits r.dialled w)
 
--- ---- whole courses
+-- ---- courses
 
 -- what was dialled before and in the events is what was hung up in them and is dialled after
 abbrev Balanced : ℕ → List Event → State → Type 0
@@ -149,12 +149,12 @@ balanced m n s t es (doing {es = rest} d more e a l) h =
 balanced m n s t es (dialling {es = rest} ok r e i l) h =
     dial_balanced ok r n s t rest (run_has n s r h i) (suited n s (Dial ∷ []) h e) (λ k g. balanced m k (dial_told ok r s) t rest l g)
 balanced m n s t es (waiting {u = u} {es = rest} x r e i c l) h =
-    balanced m n u t rest l (subst (λ (k : ℕ). Stands k u) (run_has n s r h i) (heeds_stands m (sign_of x) r s u (one_at_most n s r h i) c))
+    balanced m n u t rest l (subst (λ (k : ℕ). Stands k u) (run_has n s r h i) (heeds_stands m (answer_of x) r s u (one_at_most n s r h i) c))
 balanced m n s t es (sending {es = rest} v ok r e i l) h =
     balanced m n (send_told v ok r s) t rest l (subst (λ (k : ℕ). Stands k (send_told v ok r s)) (run_has n s r h i) (sent_stands v ok r s (one_at_most n s r h i)))
 
-from_first : (m : Model) (t : State) (es : List Event) → Leads m first es t → Balanced 0 es t
-from_first m t es l = balanced m 0 first t es l (refl, omega arith)
+from_first : (m : Model) (t : State) (es : List Event) → Leads m at_start es t → Balanced 0 es t
+from_first m t es l = balanced m 0 at_start t es l (refl, omega arith)
 
 -- the ends behind a call that was not heeded
 unheeded_ends : (n : ℕ) (s : State) (es : List Event) → Stands n s → IsUnheeded s es → (dialled_by es n ≡ dialled_in es + n) × (dialled_by es n ≤ 1)
@@ -170,7 +170,7 @@ unheeded_ends n s (waits x ∷ e ∷ es) h u = absurd u
 unheeded_ends n s (sends v ok ∷ e ∷ es) h u = absurd u
 
 -- what is dialled at the end, also by a call that was not heeded, is hung up last
-pub hung_once_cut : (m : Model) (t : State) (es more : List Event) → Leads m first es t → IsUnheeded t more → hung_in (es ++ last_of (dialled_by more (dialled_of t.run))) ≡ dialled_in (es ++ more)
+pub hung_once_cut : (m : Model) (t : State) (es more : List Event) → Leads m at_start es t → IsUnheeded t more → hung_in (es ++ last_of (dialled_by more (dialled_of t.run))) ≡ dialled_in (es ++ more)
 hung_once_cut m t es more l u =
     let b = from_first m t es l in
     let ends = unheeded_ends b.0 t more b.1 u in
@@ -185,5 +185,5 @@ hung_once_cut m t es more l u =
       b.2,
     )
 
-pub hung_once : (m : Model) (t : State) (es : List Event) → Leads m first es t → hung_in (es ++ last_of (dialled_of t.run)) ≡ dialled_in es
+pub hung_once : (m : Model) (t : State) (es : List Event) → Leads m at_start es t → hung_in (es ++ last_of (dialled_of t.run)) ≡ dialled_in es
 hung_once m t es l = hung_once_cut m t es [] l tt ∙ ap dialled_in (append-nil es)

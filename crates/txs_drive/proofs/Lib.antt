@@ -1,4 +1,3 @@
-pub mod Tests
 pub mod Wording
 pub mod Digits
 pub mod Behaviours

@@ -8,13 +8,13 @@ use Rattle.txs_drive.specs.declared.doing.Doing.TheVariants.{Say, Dial, Wait, Se
 use Rattle.txs_drive.specs.declared.note.Note.{Note}
 use Rattle.txs_drive.specs.declared.note.Note.TheVariants as note
 use Rattle.txs_drive.specs.declared.note.Ending.TheVariants.{Link}
-use Rattle.txs_drive.specs.Session.{Run, State, Heeds, dial_told, send_told, sign_of, done}
+use Rattle.txs_drive.specs.Session.{Run, State, Heeds, dial_told, send_told, answer_of, done}
 use Rattle.txs_drive.specs.Course.{Event, Leads, stays, reading, doing, dialling, waiting, sending, notes_in, notes_of, IsNoted, AnyFailed}
-use Rattle.txs_drive.specs.Served.{Rests}
+use Rattle.txs_drive.specs.Served.{EndsAtRest}
 use Rattle.txs_drive.proofs.Noted.{HasLink}
 
 -- nothing is left to be done where a session rests
-pub rested : (quits : Bool) (s : State) (more : List (List ℕ)) (es : List Event) → Rests quits s more es → s.todo ≡ []
+pub rested : (quits : Bool) (s : State) (more : List (List ℕ)) (es : List Event) → EndsAtRest quits s more es → s.todo ≡ []
 rested true s more es h = h.0
 rested false s more es h = h.0
 
@@ -61,7 +61,7 @@ send_left : (v : ℤ) (ok : Bool) (r : Run) (s : State) → ok ≡ false → Has
 send_left v true r s e = cc
 send_left v false r s e = inl refl
 
-wait_left : (m : Model) (x : Heard) (r : Run) (s u : State) → x ≡ heard.Failed → Heeds m (sign_of x) r s u → HasLink u.todo
+wait_left : (m : Model) (x : Heard) (r : Run) (s u : State) → x ≡ heard.Failed → Heeds m (answer_of x) r s u → HasLink u.todo
 wait_left m (heard.Piece end bytes) r s u e h = cc
 wait_left m heard.Nothing r s u e h = cc
 wait_left m heard.Quiet r s u e h = cc

@@ -12,11 +12,11 @@ use Rattle.txs_drive.specs.declared.note.Note.TheVariants as note
 use Rattle.txs_drive.specs.declared.note.Ending.TheVariants.{Fail, Link, Later}
 use Rattle.txs_drive.specs.declared.note.Seen.{Seen}
 use Rattle.txs_drive.specs.declared.note.Seen.TheVariants as seen
-use Rattle.txs_drive.specs.declared.sign.Sign.{Sign}
-use Rattle.txs_drive.specs.declared.sign.Sign.TheVariants as sign
+use Rattle.txs_drive.specs.declared.answer.Answer.{Answer}
+use Rattle.txs_drive.specs.declared.answer.Answer.TheVariants as answer
 use Rattle.txs_drive.specs.Parts.{cut_at}
 use Rattle.txs_drive.specs.Commands.{command_of}
-use Rattle.txs_drive.specs.Session.{Run, State, first, Carries, IfGoing, Stimulates, Heeds, Judges, dial_told, send_told, sign_of, number_sign, number_in, seen_note, is_fail, done, hanging, dialled_of}
+use Rattle.txs_drive.specs.Session.{Run, State, at_start, Carries, IfGoing, Stimulates, Heeds, Judges, dial_told, send_told, answer_of, number_answer, number_in, seen_note, is_fail, done, hanging, dialled_of}
 use Rattle.txs_drive.specs.Course.{Event, Leads, stays, reading, doing, dialling, waiting, sending, notes_in, notes_of, has_fail, IsNoted, AnyFailed}
 
 -- ---- FAIL
@@ -57,11 +57,11 @@ judges_flag : (m : Model) (x : Seen) (r : Run) (s t : State) → Judges m x r s 
 judges_flag m x r s t (inl h) = flag h.1
 judges_flag m x r s t (inr h) = flag h.1
 
-heeds_flag : (m : Model) (x : Sign) (r : Run) (s t : State) → Heeds m x r s t → t.has_failed ≡ s.has_failed
-heeds_flag m (sign.Number v) r s t h = judges_flag m (seen.Out v) r s t h
-heeds_flag m sign.Quiet r s t h = judges_flag m seen.Quiet r s t h
-heeds_flag m sign.Breaks r s t h = flag h
-heeds_flag m sign.Later r s t h = flag h
+heeds_flag : (m : Model) (x : Answer) (r : Run) (s t : State) → Heeds m x r s t → t.has_failed ≡ s.has_failed
+heeds_flag m (answer.Number v) r s t h = judges_flag m (seen.Out v) r s t h
+heeds_flag m answer.Quiet r s t h = judges_flag m seen.Quiet r s t h
+heeds_flag m answer.Breaks r s t h = flag h
+heeds_flag m answer.Later r s t h = flag h
 
 dial_flag : (ok : Bool) (r : Run) (s : State) → (dial_told ok r s).has_failed ≡ s.has_failed
 dial_flag true r s = refl
@@ -89,7 +89,7 @@ failed_says m s t es stays = or_false s.has_failed
 failed_says m s t es (reading {u = u} {es = rest} line e c h) = then_flag t.has_failed s.has_failed u.has_failed (notes_in rest) (carries_flag m (command_of m line) s u c) (failed_says m u t rest h)
 failed_says m s t es (doing {es = rest} d more e n h) = done_flag d more s t.has_failed (notes_in rest) (failed_says m (done d more s) t rest h)
 failed_says m s t es (dialling {es = rest} ok r e n h) = then_flag t.has_failed s.has_failed (dial_told ok r s).has_failed (notes_in rest) (dial_flag ok r s) (failed_says m (dial_told ok r s) t rest h)
-failed_says m s t es (waiting {u = u} {es = rest} x r e n c h) = then_flag t.has_failed s.has_failed u.has_failed (notes_in rest) (heeds_flag m (sign_of x) r s u c) (failed_says m u t rest h)
+failed_says m s t es (waiting {u = u} {es = rest} x r e n c h) = then_flag t.has_failed s.has_failed u.has_failed (notes_in rest) (heeds_flag m (answer_of x) r s u c) (failed_says m u t rest h)
 failed_says m s t es (sending {es = rest} v ok r e n h) = then_flag t.has_failed s.has_failed (send_told v ok r s).has_failed (notes_in rest) (send_flag v ok r s) (failed_says m (send_told v ok r s) t rest h)
 
 -- ---- LINK
@@ -167,21 +167,21 @@ judges_not : (m : Model) (x : Seen) (r : Run) (s t : State) → Judges m x r s t
 judges_not m x r s t (inl h) = unlinked h.1 (kept_not (length r.trace + 1) x)
 judges_not m x r s t (inr h) = unlinked h.1 (failed_not (length r.trace + 1) x (nat_lt 0 r.dialled))
 
-heeds_link : (m : Model) (x : Sign) (r : Run) (s t : State) → Heeds m x r s t → HasLink t.todo → x ≡ sign.Breaks
-heeds_link m (sign.Number v) r s t h l = absurd (judges_not m (seen.Out v) r s t h l)
-heeds_link m sign.Quiet r s t h l = absurd (judges_not m seen.Quiet r s t h l)
-heeds_link m sign.Breaks r s t h l = refl
-heeds_link m sign.Later r s t h l = absurd (unlinked h (later_not (nat_lt 0 r.dialled)) l)
+heeds_link : (m : Model) (x : Answer) (r : Run) (s t : State) → Heeds m x r s t → HasLink t.todo → x ≡ answer.Breaks
+heeds_link m (answer.Number v) r s t h l = absurd (judges_not m (seen.Out v) r s t h l)
+heeds_link m answer.Quiet r s t h l = absurd (judges_not m seen.Quiet r s t h l)
+heeds_link m answer.Breaks r s t h l = refl
+heeds_link m answer.Later r s t h l = absurd (unlinked h (later_not (nat_lt 0 r.dialled)) l)
 
-number_breaks : (o : Option ℤ) → number_sign o ≡ sign.Breaks → ⊥
+number_breaks : (o : Option ℤ) → number_answer o ≡ answer.Breaks → ⊥
 number_breaks None e = cc
 number_breaks (Some v) e = cc
 
-piece_breaks : (b : Bool) (o : Option ℤ) → cond b (number_sign o) sign.Later ≡ sign.Breaks → ⊥
+piece_breaks : (b : Bool) (o : Option ℤ) → cond b (number_answer o) answer.Later ≡ answer.Breaks → ⊥
 piece_breaks true o e = number_breaks o e
 piece_breaks false o e = cc
 
-breaks_failed : (h : Heard) → sign_of h ≡ sign.Breaks → h ≡ heard.Failed
+breaks_failed : (h : Heard) → answer_of h ≡ answer.Breaks → h ≡ heard.Failed
 breaks_failed (heard.Piece end bytes) e = absurd (piece_breaks (eqb end 0) (number_in (cut_at 10 bytes)) e)
 breaks_failed heard.Nothing e = cc
 breaks_failed heard.Quiet e = cc
@@ -235,10 +235,10 @@ link_from m s t es (doing {es = rest} d more e a h) n =
 link_from m s t es (dialling {es = rest} ok r e a h) n =
     elim (link_from m (dial_told ok r s) t rest h n) [ inl l ↦ inr (inl (dial_link ok r s l)) | inr f ↦ inr (inr f) ]
 link_from m s t es (waiting {u = u} {es = rest} x r e a c h) n =
-    elim (link_from m u t rest h n) [ inl l ↦ inr (inl (breaks_failed x (heeds_link m (sign_of x) r s u c l))) | inr f ↦ inr (inr f) ]
+    elim (link_from m u t rest h n) [ inl l ↦ inr (inl (breaks_failed x (heeds_link m (answer_of x) r s u c l))) | inr f ↦ inr (inr f) ]
 link_from m s t es (sending {es = rest} v ok r e a h) n =
     elim (link_from m (send_told v ok r s) t rest h n) [ inl l ↦ inr (inl (send_link v ok r s l)) | inr f ↦ inr (inr f) ]
 
 -- LINK stands only where a call failed
-pub link_failed : (m : Model) (t : State) (es : List Event) → Leads m first es t → IsNoted (note.Ended Link) (notes_in es) → AnyFailed es
-link_failed m t es h n = elim (link_from m first t es h n) [ inl l ↦ absurd l | inr f ↦ f ]
+pub link_failed : (m : Model) (t : State) (es : List Event) → Leads m at_start es t → IsNoted (note.Ended Link) (notes_in es) → AnyFailed es
+link_failed m t es h n = elim (link_from m at_start t es h n) [ inl l ↦ absurd l | inr f ↦ f ]

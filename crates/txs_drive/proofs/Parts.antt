@@ -8,11 +8,11 @@ use Rattle.std.specs.Str.Parse.{digits_value}
 use Rattle.txs_values.specs.Spelling.{is_digit}
 use Rattle.txs_drive.specs.File.{is_host_byte, quoted, IsPort}
 use Rattle.txs_drive.specs.Form.{has_byte, is_name, IsName}
-use Rattle.txs_drive.specs.Pieces.{Pieces, unquoted, host_read, same_port, are_named}
-use Rattle.txs_drive.specs.Reading.{are_digits, nonzero, port_read}
+use Rattle.txs_drive.specs.inner.FileWords.{FileWords, unquoted, host_read, same_port, are_named}
+use Rattle.txs_drive.specs.inner.Parsing.{are_digits, nonzero, port_read}
 use Rattle.txs_drive.proofs.Apart.{take-before, drop-before}
 use Rattle.txs_drive.proofs.Digits.{digits-here, digits-numeral}
-use Rattle.txs_drive.proofs.Tests.{by-test, le-true, and-both, both-and, eq-bytes, yes, no}
+use Rattle.txs_values.proofs.Tests.{by-test, le-true, and-both, both-and, eq-bytes, yes, no}
 use Rattle.txs_drive.proofs.Texts.{quoted-text}
 
 -- ---- hosts
@@ -102,7 +102,7 @@ ports-read w x n a b =
 
 -- ---- names
 
-pub named-each : (p : Pieces) → are_named p ≡ true → IsName p.chandef × IsName p.input × IsName p.output × IsName p.name × IsName p.link × IsName p.sent × IsName p.heard
+pub named-each : (p : FileWords) → are_named p ≡ true → IsName p.chandef × IsName p.input × IsName p.output × IsName p.name × IsName p.link × IsName p.sent × IsName p.heard
 named-each p h =
     let a = and-both (is_name p.chandef) _ h in
     let b = and-both (is_name p.input) _ a.1 in
@@ -112,6 +112,6 @@ named-each p h =
     let f = and-both (is_name p.sent) (is_name p.heard) e.1 in
     (a.0, b.0, c.0, d.0, e.0, f.0, f.1)
 
-pub each-named : (p : Pieces) → IsName p.chandef × IsName p.input × IsName p.output × IsName p.name × IsName p.link × IsName p.sent × IsName p.heard → are_named p ≡ true
+pub each-named : (p : FileWords) → IsName p.chandef × IsName p.input × IsName p.output × IsName p.name × IsName p.link × IsName p.sent × IsName p.heard → are_named p ≡ true
 each-named p h =
     both-and (is_name p.chandef) _ h.0 (both-and (is_name p.input) _ h.1 (both-and (is_name p.output) _ h.2 (both-and (is_name p.name) _ h.3 (both-and (is_name p.link) _ h.4 (both-and (is_name p.sent) _ h.5 h.6)))))

@@ -4,8 +4,8 @@ use Rattle.txs_terms.specs.Term.{Position, Term, stop}
 use Rattle.txs_drive.specs.declared.load_fault.LoadFault.{LoadFault}
 use Rattle.txs_drive.specs.declared.load_fault.LoadFault.TheVariants.{Later, NoMemory}
 use Rattle.txs_drive.specs.Form.{tight, loose}
-use Rattle.txs_drive.specs.Reading.{Reads, Front, Reader, position_read, binder, channel_read, prefixed, step_read, prefix_read, grouped, choice_read, chosen, front_read}
-use Rattle.txs_drive.proofs.Tests.{bytes-eq, yes, no}
+use Rattle.txs_drive.specs.inner.Parsing.{Reads, Front, Reader, position_read, binder, channel_read, prefixed, step_read, prefix_read, grouped, choice_read, chosen, front_read}
+use Rattle.txs_values.proofs.Tests.{bytes-eq, yes, no}
 
 -- what is read of the words behind the name of a prefix, taken apart
 pub prefix-words : (tightly : Reader) (i o : List ℕ) (bound bound' : List (List ℕ)) (name : List ℕ) (ws : List (List ℕ)) (s w a s' w' a' : List ℕ) (more : List (List ℕ)) → 3 ≤ length ws

@@ -11,8 +11,8 @@ use Rattle.txs_drive.specs.declared.note.Ending.TheVariants.{Fail}
 use Rattle.txs_drive.specs.declared.note.Seen.{Seen}
 use Rattle.txs_drive.specs.declared.note.Seen.TheVariants as seen
 use Rattle.txs_drive.specs.Session.{Run, State, does, goes_on, seen_run, over_run, hanging, seen_note, IfGoing, Stimulates}
-use Rattle.txs_drive.specs.Ready.{run_of, IsGoing, AllowedNow, IsObserved, next_number, ToldBy, Judged, HeedsBy}
-use Rattle.txs_drive.specs.declared.sign.Sign.TheVariants as sign
+use Rattle.txs_drive.specs.inner.Ready.{run_of, IsGoing, AllowedNow, IsObserved, next_number, ToldBy, Judged, HeedsBy}
+use Rattle.txs_drive.specs.declared.answer.Answer.TheVariants as answer
 
 pub hanging-some : (n : ℕ) → 0 < n → hanging n ≡ HangUp ∷ []
 hanging-some n h = let e : nat_lt 0 n ≡ true = grind (arith, nat_tests) in ap (λ b. cond b (HangUp ∷ []) []) e
@@ -50,11 +50,11 @@ keeps m (seen.Out v) (Some r) s t n o g a some e = inl (a.0 some, e)
 keeps m seen.Quiet (Some r) s t n o g a some e = inl (a.0 some, e)
 
 -- an action that was heard is judged
-pub heeds_number : (m : Model) (v : ℤ) (r : Option Run) (s t : State) → Judged m (seen.Out v) r s t → HeedsBy m (sign.Number v) r s t
+pub heeds_number : (m : Model) (v : ℤ) (r : Option Run) (s t : State) → Judged m (seen.Out v) r s t → HeedsBy m (answer.Number v) r s t
 heeds_number m v None s t h = h
 heeds_number m v (Some r) s t h = h
 
 -- and so is quiescence
-pub heeds_quiet : (m : Model) (r : Option Run) (s t : State) → Judged m seen.Quiet r s t → HeedsBy m sign.Quiet r s t
+pub heeds_quiet : (m : Model) (r : Option Run) (s t : State) → Judged m seen.Quiet r s t → HeedsBy m answer.Quiet r s t
 heeds_quiet m None s t h = h
 heeds_quiet m (Some r) s t h = h

@@ -13,11 +13,11 @@ use Rattle.txs_drive.specs.declared.model.Model.{Model}
 use Rattle.txs_drive.specs.declared.note.Note.{Note}
 use Rattle.txs_drive.specs.Lines.{line_of}
 use Rattle.txs_drive.specs.Session.{Run, State, dialled_of}
-use Rattle.txs_drive.specs.Ready.{IsFresh}
+use Rattle.txs_drive.specs.inner.Ready.{IsFresh}
 use Rattle.txs_drive.specs.Course.{Event, dials, stays, lines_in, notes_in, text_of, hung_after, calls_in, due_in}
 use Rattle.txs_drive.specs.Cut.{Torn, IsUnheeded, dialled_by}
-use Rattle.txs_drive.specs.Going.{HasNoFeed, joined, Went, Took}
-use Rattle.txs_drive.specs.Stopping.{Stopped, StoppedIn}
+use Rattle.txs_drive.specs.inner.CarriedOut.{HasNoFeed, joined, CarriedOut, LinesCarriedOut}
+use Rattle.txs_drive.specs.inner.Stopped.{Stopped, StoppedInBytes}
 use Rattle.txs_drive.proofs.Courses.{leads_then, lines_in-append, notes_in-append, text_of-append, hung_after-append, calls_in-append, any_cases, stays_then}
 use Rattle.txs_drive.proofs.Feeding.{all-append, joined-append}
 use Rattle.txs_drive.proofs.Told.{unheeded_undue}
@@ -35,9 +35,9 @@ if_err P Q e (Err y) h k p = subst P (sym (k y h)) p
 pub ok_no_stop : {A : Type 0} (x : A) → Ok x ≡ Err stop.Sink → ⊥
 ok_no_stop x e = cc
 
--- a read that gave a piece did not fail
-pub piece_no_fault : {E : Type 0} (r : Read) (p : List ℕ) → r ≡ read.Piece p → ◌≡◌ {A = Result Read E} (Ok r) (Ok read.Failed) → ⊥
-piece_no_fault r p e f = cc
+-- a read that gave bytes did not fail
+pub bytes_no_fault : {E : Type 0} (r : Read) (p : List ℕ) → r ≡ read.Bytes p → ◌≡◌ {A = Result Read E} (Ok r) (Ok read.Failed) → ⊥
+bytes_no_fault r p e f = cc
 
 -- ---- a session that stops
 
@@ -134,7 +134,7 @@ lines_then a b ls ms behind e f =
 
 -- one stretch, and then a stop
 pub went_stopped : (x : Stop) (m : Model) (s t : State) (n : ℕ) (k0 k1 k2 : Option (List ℕ)) (u0 u1 u2 : Option (List SutEntry)) (h0 h1 h2 : Option ℕ) (f0 f1 f2 : ℕ) (ls ms : List (List ℕ))
-    → Went m s t k0 k1 u0 u1 h0 h1 f0 f1 ls false → Stopped x m t n k1 k2 u1 u2 h1 h2 f1 f2 ms → Stopped x m s n k0 k2 u0 u2 h0 h2 f0 f2 (ls ++ ms)
+    → CarriedOut m s t k0 k1 u0 u1 h0 h1 f0 f1 ls false → Stopped x m t n k1 k2 u1 u2 h1 h2 f1 f2 ms → Stopped x m s n k0 k2 u0 u2 h0 h2 f0 f2 (ls ++ ms)
 went_stopped x m s t n k0 k1 k2 u0 u1 u2 h0 h1 h2 f0 f1 f2 ls ms a b = record {
   events = a.events ++ b.events;
   behind = b.behind;
@@ -160,7 +160,7 @@ went_stopped x m s t n k0 k1 k2 u0 u1 u2 h0 h1 h2 f0 f1 f2 ls ms a b = record {
 
 -- at a line of which the feed was read
 pub stopped_in_line : (x : Stop) (m : Model) (s : State) (n : ℕ) (k0 k1 : Option (List ℕ)) (u0 u1 : Option (List SutEntry)) (h0 h1 : Option ℕ) (f0 f1 : ℕ) (line : List ℕ) (b : ℕ)
-    → b ≡ 10 → HasNoFeed line → Stopped x m s n k0 k1 u0 u1 h0 h1 f0 f1 (line ∷ []) → StoppedIn x m s n k0 k1 u0 u1 h0 h1 f0 f1 (line ++ b ∷ [])
+    → b ≡ 10 → HasNoFeed line → Stopped x m s n k0 k1 u0 u1 h0 h1 f0 f1 (line ∷ []) → StoppedInBytes x m s n k0 k1 u0 u1 h0 h1 f0 f1 (line ++ b ∷ [])
 stopped_in_line x m s n k0 k1 u0 u1 h0 h1 f0 f1 line b e nf y = record {
   lines = line ∷ [];
   rest = [];
@@ -171,7 +171,7 @@ stopped_in_line x m s n k0 k1 u0 u1 h0 h1 f0 f1 line b e nf y = record {
 
 -- in the midst of a line
 pub stopped_in_part : (m : Model) (s : State) (n : ℕ) (k : Option (List ℕ)) (u : Option (List SutEntry)) (h : Option ℕ) (f : ℕ) (bytes : List ℕ)
-    → s.todo ≡ [] → n ≡ dialled_of s.run → StoppedIn stop.NoMemory m s n k k u u h h f f bytes
+    → s.todo ≡ [] → n ≡ dialled_of s.run → StoppedInBytes stop.NoMemory m s n k k u u h h f f bytes
 stopped_in_part m s n k u h f bytes z e = record {
   lines = [];
   rest = bytes;
@@ -182,7 +182,7 @@ stopped_in_part m s n k u h f bytes z e = record {
 
 -- before more bytes
 pub stopped_in_more : (x : Stop) (m : Model) (s : State) (n : ℕ) (k0 k1 : Option (List ℕ)) (u0 u1 : Option (List SutEntry)) (h0 h1 : Option ℕ) (f0 f1 : ℕ) (bytes more : List ℕ)
-    → StoppedIn x m s n k0 k1 u0 u1 h0 h1 f0 f1 bytes → StoppedIn x m s n k0 k1 u0 u1 h0 h1 f0 f1 (bytes ++ more)
+    → StoppedInBytes x m s n k0 k1 u0 u1 h0 h1 f0 f1 bytes → StoppedInBytes x m s n k0 k1 u0 u1 h0 h1 f0 f1 (bytes ++ more)
 stopped_in_more x m s n k0 k1 u0 u1 h0 h1 f0 f1 bytes more y = record {
   lines = y.lines;
   rest = y.rest ++ more;
@@ -193,7 +193,7 @@ stopped_in_more x m s n k0 k1 u0 u1 h0 h1 f0 f1 bytes more y = record {
 
 -- behind bytes whose lines were carried out
 pub took_stopped : (x : Stop) (m : Model) (s t : State) (n : ℕ) (k0 k1 k2 : Option (List ℕ)) (u0 u1 u2 : Option (List SutEntry)) (h0 h1 h2 : Option ℕ) (f0 f1 f2 : ℕ) (bytes more pending : List ℕ)
-    → Took m s t k0 k1 u0 u1 h0 h1 f0 f1 bytes pending false → StoppedIn x m t n k1 k2 u1 u2 h1 h2 f1 f2 (pending ++ more) → StoppedIn x m s n k0 k2 u0 u2 h0 h2 f0 f2 (bytes ++ more)
+    → LinesCarriedOut m s t k0 k1 u0 u1 h0 h1 f0 f1 bytes pending false → StoppedInBytes x m t n k1 k2 u1 u2 h1 h2 f1 f2 (pending ++ more) → StoppedInBytes x m s n k0 k2 u0 u2 h0 h2 f0 f2 (bytes ++ more)
 took_stopped x m s t n k0 k1 k2 u0 u1 u2 h0 h1 h2 f0 f1 f2 bytes more pending a b = record {
   lines = a.lines ++ b.lines;
   rest = b.rest;

@@ -7,8 +7,8 @@ use Rattle.std.proofs.lemmas.Str.{IsUtf8-nil, IsUtf8-append, IsUtf8-encode, IsUt
 use Rattle.std.specs.List.{AllByRecursion}
 use Rattle.std.specs.Str.{IsUtf8}
 use Rattle.txs_drive.specs.Form.{is_gap, onto, parts, has_byte, words_of}
-use Rattle.txs_drive.specs.Reading.{HasNoGap}
-use Rattle.txs_drive.proofs.Tests.{and-both, yes, no}
+use Rattle.txs_drive.specs.inner.Parsing.{HasNoGap}
+use Rattle.txs_values.proofs.Tests.{and-both, yes, no}
 
 gap-ascii : (b : ℕ) → is_gap b ≡ true → b < 128
 gap-ascii b h = grind (arith, nat_tests)

@@ -10,12 +10,12 @@ use Rattle.txs_drive.specs.declared.note.Note.TheVariants as note
 use Rattle.txs_drive.specs.declared.note.Seen.{Seen}
 use Rattle.txs_drive.specs.declared.note.Seen.TheVariants as seen
 use Rattle.txs_drive.specs.declared.note.Ending.TheVariants.{Fail}
-use Rattle.txs_drive.specs.declared.sign.Sign.{Sign}
-use Rattle.txs_drive.specs.declared.sign.Sign.TheVariants as sign
+use Rattle.txs_drive.specs.declared.answer.Answer.{Answer}
+use Rattle.txs_drive.specs.declared.answer.Answer.TheVariants as answer
 use Rattle.txs_drive.specs.Commands.{command_of}
-use Rattle.txs_drive.specs.Session.{Run, State, first, Carries, IfGoing, Stimulates, Heeds, Judges, dial_told, send_told, sign_of, seen_note, done, dialled_of, started}
+use Rattle.txs_drive.specs.Session.{Run, State, at_start, Carries, IfGoing, Stimulates, Heeds, Judges, dial_told, send_told, answer_of, seen_note, done, dialled_of, started}
 use Rattle.txs_drive.specs.Course.{Event, does', dials, waits, sends, Leads, stays, reading, doing, dialling, waiting, sending, notes_in, notes_of, sent_in, told_in, due_in}
-use Rattle.txs_drive.specs.Ready.{ToldBy, HeedsBy, IsNext, IsObserved}
+use Rattle.txs_drive.specs.inner.Ready.{ToldBy, HeedsBy, IsNext, IsObserved}
 use Rattle.txs_drive.specs.Cut.{IsUnheeded}
 
 -- ---- nothing is due
@@ -72,13 +72,13 @@ judges_undue m x r s t o (inl h) = undue_is h.1 (seen_undue (length r.trace + 1)
 judges_undue m x r s t o (inr h) =
     undue_is h.1 (seen_undue (length r.trace + 1) x (Say (note.Ended Fail) ∷ (cond (nat_lt 0 r.dialled) (HangUp ∷ []) [] ++ Idle ∷ [])) o (hanging_undue (nat_lt 0 r.dialled) Idle refl))
 
-heeds_told_undue : (m : Model) (x : Sign) (r : Run) (s t : State) → Heeds m x r s t → Undue t
-heeds_told_undue m (sign.Number v) r s t h = judges_undue m (seen.Out v) r s t tt h
-heeds_told_undue m sign.Quiet r s t h = judges_undue m seen.Quiet r s t tt h
-heeds_told_undue m sign.Breaks r s t h = undue_is h (hanging_undue (nat_lt 0 r.dialled) Idle refl)
-heeds_told_undue m sign.Later r s t h = undue_is h (hanging_undue (nat_lt 0 r.dialled) Idle refl)
+heeds_told_undue : (m : Model) (x : Answer) (r : Run) (s t : State) → Heeds m x r s t → Undue t
+heeds_told_undue m (answer.Number v) r s t h = judges_undue m (seen.Out v) r s t tt h
+heeds_told_undue m answer.Quiet r s t h = judges_undue m seen.Quiet r s t tt h
+heeds_told_undue m answer.Breaks r s t h = undue_is h (hanging_undue (nat_lt 0 r.dialled) Idle refl)
+heeds_told_undue m answer.Later r s t h = undue_is h (hanging_undue (nat_lt 0 r.dialled) Idle refl)
 
-pub heeds_undue : (m : Model) (x : Sign) (r : Option Run) (s t : State) → HeedsBy m x r s t → Undue t
+pub heeds_undue : (m : Model) (x : Answer) (r : Option Run) (s t : State) → HeedsBy m x r s t → Undue t
 heeds_undue m x None s t h = absurd h
 heeds_undue m x (Some q) s t h = heeds_told_undue m x q s t h
 
@@ -148,9 +148,9 @@ sent_told m s t es (doing {es = rest} d more e a h) =
 sent_told m s t es (dialling {es = rest} ok r e a h) =
     both_undue s (dial_told ok r s) (sent_in rest) _ (undue_todo s (Dial ∷ []) e refl) (dial_told_undue ok r s) (sent_told m (dial_told ok r s) t rest h)
 sent_told m s t es (waiting {u = u} {es = rest} x r e a c h) =
-    both_undue s u (sent_in rest) _ (undue_todo s (Wait ∷ []) e refl) (heeds_told_undue m (sign_of x) r s u c) (sent_told m u t rest h)
+    both_undue s u (sent_in rest) _ (undue_todo s (Wait ∷ []) e refl) (heeds_told_undue m (answer_of x) r s u c) (sent_told m u t rest h)
 sent_told m s t es (sending {es = rest} v ok r e a h) = send_told_due v ok r s rest _ e (sent_told m (send_told v ok r s) t rest h)
 
 -- where nothing is due in the end
-pub all_told : (m : Model) (t : State) (es : List Event) → Leads m first es t → due_in t.todo ≡ [] → sent_in es ≡ told_in (notes_in es)
-all_told m t es h e = sent_told m first t es h ∙ (ap (λ (q : List ℤ). told_in (notes_in es) ++ q) e ∙ append-nil (told_in (notes_in es)))
+pub all_told : (m : Model) (t : State) (es : List Event) → Leads m at_start es t → due_in t.todo ≡ [] → sent_in es ≡ told_in (notes_in es)
+all_told m t es h e = sent_told m at_start t es h ∙ (ap (λ (q : List ℤ). told_in (notes_in es) ++ q) e ∙ append-nil (told_in (notes_in es)))

@@ -1,7 +1,7 @@
 -- The words of bytes, from their front.
 use Rattle.std.proofs.Common.{◌≡◌, ◌<◌, ℕ, Bool, true, false, cond, List, [], ◌∷◌, ◌++◌, length, filter, refl, sym, ◌∙◌, ap, append_assoc, arith}
 use Rattle.txs_drive.specs.Form.{is_gap, onto, parts, has_byte, words_of}
-use Rattle.txs_drive.specs.Reading.{HasNoGap}
+use Rattle.txs_drive.specs.inner.Parsing.{HasNoGap}
 
 parts-gap : (w : List ℕ) (b : ℕ) (rest : List ℕ) → HasNoGap w → is_gap b ≡ true → parts (w ++ b ∷ rest) ≡ w ∷ parts rest
 parts-gap [] b rest h e = ap (λ (t : Bool). cond t ([] ∷ parts rest) (onto b (parts rest))) e

@@ -15,7 +15,7 @@ use Rattle.txs_drive.specs.declared.note.Note.{Note}
 use Rattle.txs_drive.specs.declared.note.Note.TheVariants as note
 use Rattle.txs_drive.specs.Commands.{command_of}
 use Rattle.txs_drive.specs.Lines.{line_of, sent_line}
-use Rattle.txs_drive.specs.Session.{Run, State, Carries, dial_told, send_told, sign_of, Heeds, is_fail, done}
+use Rattle.txs_drive.specs.Session.{Run, State, Carries, dial_told, send_told, answer_of, Heeds, is_fail, done}
 
 -- a command line is read, a doing that asks nothing is done, or a call on the system is answered
 pub data Event : Type 0 where
@@ -45,7 +45,7 @@ pub data Leads (m : Model) : State → List Event → State → Type 0 where
   dialling : {s t : State} {es : List Event} (ok : Bool) (r : Run)
       → s.todo ≡ Dial ∷ [] → s.run ≡ Some r → Leads m (dial_told ok r s) es t → Leads m s (dials ok ∷ es) t
   waiting : {s t u : State} {es : List Event} (h : Heard) (r : Run)
-      → s.todo ≡ Wait ∷ [] → s.run ≡ Some r → Heeds m (sign_of h) r s u → Leads m u es t → Leads m s (waits h ∷ es) t
+      → s.todo ≡ Wait ∷ [] → s.run ≡ Some r → Heeds m (answer_of h) r s u → Leads m u es t → Leads m s (waits h ∷ es) t
   sending : {s t : State} {es : List Event} (v : ℤ) (ok : Bool) (r : Run)
       → s.todo ≡ Send v ∷ [] → s.run ≡ Some r → Leads m (send_told v ok r s) es t → Leads m s (sends v ok ∷ es) t
 

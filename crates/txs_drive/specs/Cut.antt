@@ -10,7 +10,7 @@ use Rattle.txs_drive.specs.declared.note.Note.{Note}
 use Rattle.txs_drive.specs.declared.note.Note.TheVariants as note
 use Rattle.txs_drive.specs.declared.note.Ending.TheVariants.{Link}
 use Rattle.txs_drive.specs.Lines.{line_of}
-use Rattle.txs_drive.specs.Session.{State, first, dialled_of}
+use Rattle.txs_drive.specs.Session.{State, at_start, dialled_of}
 use Rattle.txs_drive.specs.Course.{Event, dials, waits, Leads, lines_in, notes_in, text_of, has_quit, IsNoted, hung_after, calls_in, dialled_in, hung_in, sent_in, told_in, due_in}
 use Rattle.txs_drive.specs.Served.{Ending, open', end, command_lines, byte_limit, last_of}
 
@@ -78,7 +78,7 @@ pub record CutShort (cut : Cut) (m : Model) (g0 g1 l0 l1 : Option (List ℕ)) (a
   pub most : length given ≤ byte_limit + 1
   pub ended : (ending ≡ open') ⊎ ((ending ≡ end) × (at_end ≡ true) × (unread ≡ []) × Tells l0 given)
   -- the reference run, in which no `quit` was met
-  pub leads : Leads m first events final
+  pub leads : Leads m at_start events final
   pub lines : command_lines commands ending ≡ lines_in events ++ behind
   pub unquit : has_quit events ≡ false
   -- all that was written and called

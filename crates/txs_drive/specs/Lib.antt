@@ -1,7 +1,5 @@
 pub mod Form
 pub mod File
-pub mod Reading
-pub mod Pieces
 pub mod Parts
 pub mod Commands
 pub mod Lines
@@ -10,6 +8,4 @@ pub mod Session
 pub mod Course
 pub mod Served
 pub mod Cut
-pub mod Ready
-pub mod Going
-pub mod Stopping
+pub mod inner

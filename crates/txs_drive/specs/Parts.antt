@@ -15,10 +15,10 @@ around (Some at) bs = Some (take at bs, drop (at + 1) bs)
 abbrev pub cut_at : ℕ → List ℕ → Option (List ℕ × List ℕ)
 cut_at c bs = around (position (λ b. eqb b c) bs) bs
 
-abbrev pub or_whole : Option (List ℕ × List ℕ) → List ℕ → List ℕ × List ℕ
-or_whole None bs = (bs, [])
-or_whole (Some parts) bs = parts
+abbrev pub or_all : Option (List ℕ × List ℕ) → List ℕ → List ℕ × List ℕ
+or_all None bs = (bs, [])
+or_all (Some parts) bs = parts
 
 -- the first word, and what stands behind the blank after it
 abbrev pub word_cut : List ℕ → List ℕ × List ℕ
-word_cut bs = or_whole (around (position is_blank bs) bs) bs
+word_cut bs = or_all (around (position is_blank bs) bs) bs

@@ -7,7 +7,7 @@ use Rattle.txs_drive.specs.declared.doing.Doing.TheVariants.{HangUp, Quit}
 use Rattle.txs_drive.specs.declared.model.Model.{Model}
 use Rattle.txs_drive.specs.declared.note.Note.TheVariants as note
 use Rattle.txs_drive.specs.declared.note.Ending.TheVariants.{Link}
-use Rattle.txs_drive.specs.Session.{State, first, dialled_of}
+use Rattle.txs_drive.specs.Session.{State, at_start, dialled_of}
 use Rattle.txs_drive.specs.Course.{Event, does', Leads, lines_in, notes_in, text_of, has_fail, has_quit, IsNoted, hung_after, calls_in, dialled_in, hung_in, sent_in, told_in, AnyFailed}
 
 -- ---- command bytes
@@ -60,9 +60,9 @@ Gave fault given commands = (given ≡ commands) × (length commands ≤ byte_li
 
 -- All lines are carried out and no `quit` was met, or the first `quit` is the last event; so the reference run
 -- neither stands still nor goes on behind a `quit`.
-abbrev pub Rests : Bool → State → List (List ℕ) → List Event → Type 0
-Rests false s more es = (s.todo ≡ []) × (more ≡ []) × (has_quit es ≡ false)
-Rests true s more es = (s.todo ≡ []) × (before : List Event) × (es ≡ before ++ does' Quit ∷ []) × (has_quit before ≡ false)
+abbrev pub EndsAtRest : Bool → State → List (List ℕ) → List Event → Type 0
+EndsAtRest false s more es = (s.todo ≡ []) × (more ≡ []) × (has_quit es ≡ false)
+EndsAtRest true s more es = (s.todo ≡ []) × (before : List Event) × (es ≡ before ++ does' Quit ∷ []) × (has_quit before ≡ false)
 
 -- the status by how the commands ended, whether a `quit` was met, and whether FAIL was written; behind a `quit`
 -- nothing is read that fails or is past the limit
@@ -104,9 +104,9 @@ pub record Served (m : Model) (g0 g1 l0 l1 : Option (List ℕ)) (at_end : Bool) 
   pub lost : Loses l0 l1 given
   pub ended : ending ≡ end → (at_end ≡ true) × Tells l0 given
   -- the reference run, which does not stand still
-  pub leads : Leads m first events final
+  pub leads : Leads m at_start events final
   pub lines : command_lines commands ending ≡ lines_in events ++ behind
-  pub rests : Rests quits final behind events
+  pub rests : EndsAtRest quits final behind events
   -- all that was written and called
   pub text : Grows k0 k1 (text_of m (notes_in events))
   pub calls : Adds u0 u1 (calls_in m events h0)

@@ -4,8 +4,8 @@ use Rattle.txs_outside.specs.declared.sut.Heard.{Heard}
 use Rattle.txs_outside.specs.declared.sut.Heard.TheVariants as heard
 use Rattle.txs_drive.specs.declared.note.Seen.{Seen}
 use Rattle.txs_drive.specs.declared.note.Seen.TheVariants as seen
-use Rattle.txs_drive.specs.declared.sign.Sign.{Sign}
-use Rattle.txs_drive.specs.declared.sign.Sign.TheVariants as sign
+use Rattle.txs_drive.specs.declared.answer.Answer.{Answer}
+use Rattle.txs_drive.specs.declared.answer.Answer.TheVariants as answer
 use Rattle.txs_drive.specs.declared.note.Ending.{Ending}
 use Rattle.txs_drive.specs.declared.note.Ending.TheVariants.{Fail, Link, Later}
 use Rattle.txs_drive.specs.declared.note.Note.{Note}
@@ -31,8 +31,8 @@ pub record State : Type 0 where
   pub has_failed : Bool
   pub todo : List Doing
 
-abbrev pub first : State
-first = record { run = None; has_failed = false; todo = [] }
+abbrev pub at_start : State
+at_start = record { run = None; has_failed = false; todo = [] }
 
 abbrev pub new_run : Run
 new_run = record { trace = []; is_over = false; dialled = 0 }
@@ -132,23 +132,23 @@ number_in (Some parts) = if_last parts.0 parts.1
     if_last line (b ∷ bs) = None
 
 -- an Int in one whole line of end 0 is an action on the output channel; what else is told is not read so far
-abbrev pub number_sign : Option ℤ → Sign
-number_sign None = sign.Later
-number_sign (Some v) = sign.Number v
+abbrev pub number_answer : Option ℤ → Answer
+number_answer None = answer.Later
+number_answer (Some v) = answer.Number v
 
-abbrev pub sign_of : Heard → Sign
-sign_of (heard.Piece end bytes) = cond (eqb end 0) (number_sign (number_in (cut_at 10 bytes))) sign.Later
-sign_of heard.Nothing = sign.Later
-sign_of heard.Quiet = sign.Quiet
-sign_of (heard.Ended end) = sign.Later
-sign_of heard.Failed = sign.Breaks
+abbrev pub answer_of : Heard → Answer
+answer_of (heard.Piece end bytes) = cond (eqb end 0) (number_answer (number_in (cut_at 10 bytes))) answer.Later
+answer_of heard.Nothing = answer.Later
+answer_of heard.Quiet = answer.Quiet
+answer_of (heard.Ended end) = answer.Later
+answer_of heard.Failed = answer.Breaks
 
 -- an observation is judged; all else ends the run
-abbrev pub Heeds : Model → Sign → Run → State → State → Type 0
-Heeds m (sign.Number v) r s t = Judges m (seen.Out v) r s t
-Heeds m sign.Quiet r s t = Judges m seen.Quiet r s t
-Heeds m sign.Breaks r s t = t ≡ goes_on (over_run r) (ends_with Link r) s
-Heeds m sign.Later r s t = t ≡ goes_on (over_run r) (ends_with Later r) s
+abbrev pub Heeds : Model → Answer → Run → State → State → Type 0
+Heeds m (answer.Number v) r s t = Judges m (seen.Out v) r s t
+Heeds m answer.Quiet r s t = Judges m seen.Quiet r s t
+Heeds m answer.Breaks r s t = t ≡ goes_on (over_run r) (ends_with Link r) s
+Heeds m answer.Later r s t = t ≡ goes_on (over_run r) (ends_with Later r) s
 
 -- ---- what is done by itself
 

@@ -1,7 +1,7 @@
 ghost use Rattle.std.specs.Prelude.{◌≡◌, ℕ, ◌+◌, ◌*◌, ◌≤◌, ◌<◌, ◌^◌, List, ◌∷◌, [], ◌++◌, length, IfOk, OnOk, Some};
 ghost use Rattle.txs_drive.specs.Form;
 ghost use Rattle.txs_drive.specs.Form.{offer, tight, loose};
-ghost use Rattle.txs_drive.specs.Reading.{Reads, as_given, as_taken, name_read, expr_read, position_read, binder, channel_read, prefixed, prefix_read, closed, front_of, grouped, choice_read, front_read, behaviour_read};
+ghost use Rattle.txs_drive.specs.inner.Parsing.{Reads, as_given, as_taken, name_read, expr_read, position_read, binder, channel_read, prefixed, prefix_read, closed, front_of, grouped, choice_read, front_read, behaviour_read};
 ghost use Rattle.txs_terms.specs.Term.{prefix};
 ghost use Rattle.txs_terms.specs.View;
 ghost use Rattle.txs_terms.specs.View.{expr_of, offers_of, term_of};

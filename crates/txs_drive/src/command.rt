@@ -4,11 +4,11 @@ ghost use Rattle.txs_drive.specs.Commands;
 ghost use Rattle.txs_drive.specs.Commands.{without_return, action_of, command_of, by_word};
 
 use crate::Model;
-use crate::pieces::{cut, cut_word, strip};
+use crate::cuts::{cut, cut_word, strip};
 use txs_values::read_int;
 
 /// What a line of a session says.
-#[derive(Clone, Copy, Debug, PartialEq, Eq)]
+#[derive(Clone, Copy)]
 pub enum Command {
     /// Nothing, or more than a line may have.
     Pass,

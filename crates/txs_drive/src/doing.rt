@@ -1,7 +1,7 @@
 use crate::Note;
 
 /// What a session does next.
-#[derive(Clone, Copy, Debug, PartialEq, Eq)]
+#[derive(Clone, Copy)]
 pub enum Doing {
     /// A line is written.
     Say(Note),

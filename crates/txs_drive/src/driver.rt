@@ -4,31 +4,31 @@ ghost use Rattle.txs_outside.specs.Known.{Grows};
 ghost use Rattle.txs_terms.specs.Sets.{IsPlain};
 ghost use Rattle.txs_terms.specs.View.{term_of};
 ghost use Rattle.txs_drive.specs.Session.{dialled_of, send_told};
-ghost use Rattle.txs_drive.specs.Ready.{state_of, IsBusy, IsGoing, IsFresh, IsTied, IsPlainRun, IsPrepared, Keeps, ToldBy};
+ghost use Rattle.txs_drive.specs.inner.Ready.{state_of, IsBusy, IsGoing, IsFresh, IsTied, IsPlainRun, IsPrepared, Keeps, ToldBy};
 ghost use Rattle.txs_drive.specs.Lines;
 ghost use Rattle.txs_drive.specs.Course.{ends_of, due_in};
 ghost use Rattle.txs_drive.specs.Cut.{Torn};
-ghost use Rattle.txs_drive.specs.Going.{Went, Called, Waited, IsAhead, IsReady, has_left};
-ghost use Rattle.txs_drive.specs.Stopping.{Stopped, Tracks, ends_in};
+ghost use Rattle.txs_drive.specs.inner.CarriedOut.{CarriedOut, CallAnswered, WaitAnswered, IsAhead, IsReady, has_left};
+ghost use Rattle.txs_drive.specs.inner.Stopped.{Stopped, Tracks, ends_in};
 
+use crate::answer::answer_of;
 use crate::lines::{line_of, sent_line};
 use crate::session::Prepared;
-use crate::sign::sign_of;
-use crate::{Doing, Model, Note, Session, Sign};
+use crate::{Answer, Doing, Model, Note, Session};
 use sqlite_items::Items;
-use std::alloc::{AllocError, AllocFailed, Global};
+use std::alloc::Global;
 use txs_outside::{End, Ends, Failed, Sink, Sut};
 use txs_values::NoMemory;
 
 /// Why a session stops before its commands are carried out.
-#[derive(Clone, Copy, Debug, PartialEq, Eq)]
+#[derive(Clone, Copy)]
 pub enum Stop {
     NoMemory,
     Sink,
 }
 
 /// How a session goes on behind a step.
-#[derive(Clone, Copy, Debug, PartialEq, Eq)]
+#[derive(Clone, Copy)]
 pub enum Next {
     GoesOn,
     Idle,
@@ -41,26 +41,6 @@ impl From<NoMemory> for Stop {
     ghost from_gives = { λ _ e. e ≡ NoMemory };
 
     fn from(_e: NoMemory) -> Stop {
-        Stop::NoMemory
-    }
-}
-
-impl From<AllocError> for Stop {
-    ghost use Rattle.txs_drive.specs.declared.driver.Stop.TheVariants.{NoMemory};
-
-    ghost from_gives = { λ _ e. e ≡ NoMemory };
-
-    fn from(_e: AllocError) -> Stop {
-        Stop::NoMemory
-    }
-}
-
-impl<T: Drop> From<AllocFailed<T>> for Stop {
-    ghost use Rattle.txs_drive.specs.declared.driver.Stop.TheVariants.{NoMemory};
-
-    ghost from_gives = { λ _ e. e ≡ NoMemory };
-
-    fn from(_e: AllocFailed<T>) -> Stop {
         Stop::NoMemory
     }
 }
@@ -116,7 +96,7 @@ fn dial<U: Sut>(
     requires ready { IsReady model.now session.old (U.dialled sut.old) }
     requires due { (state_of session.old).todo ≡ Doing.Dial ∷ [] }
     requires fresh { IsFresh (state_of session.old).run }
-    ensures called { OnOk result (Called model.now (state_of session.old) (state_of session.new) (U.calls sut.old) (U.calls sut.new)
+    ensures called { OnOk result (CallAnswered model.now (state_of session.old) (state_of session.new) (U.calls sut.old) (U.calls sut.new)
         (U.hang_ups sut.old) (U.hang_ups sut.new) (U.faults sut.old) (U.faults sut.new)) }
     ensures ready { OnOk result (IsReady model.now session.new (U.dialled sut.new)) }
     ensures busy { OnOk result (IsAhead Next.GoesOn (state_of session.old) (state_of session.new)) }
@@ -132,15 +112,15 @@ fn dial<U: Sut>(
 }
 
 /// Waits once, and says what the answer says.
-fn wait_once<U: Sut>(sut: &mut U) -> Sign
+fn wait_once<U: Sut>(sut: &mut U) -> Answer
     requires { 0 < U.dialled sut.old }
-    ensures called { Waited (U.calls sut.old) (U.calls sut.new) (U.hang_ups sut.old) (U.faults sut.old) (U.faults sut.new) result }
+    ensures called { WaitAnswered (U.calls sut.old) (U.calls sut.new) (U.hang_ups sut.old) (U.faults sut.old) (U.faults sut.new) result }
     ensures hang_ups { U.hang_ups sut.new ≡ U.hang_ups sut.old }
     ensures dialled { U.dialled sut.new ≡ U.dialled sut.old }
 {
     let mut buf = [0u8; 4096];
     let told = sut.wait(&mut buf);
-    sign_of(told, &buf)
+    answer_of(told, &buf)
 }
 
 /// Waits for what the system tells next.
@@ -153,7 +133,7 @@ fn wait<U: Sut>(
     requires ready { IsReady model.now session.old (U.dialled sut.old) }
     requires due { (state_of session.old).todo ≡ Doing.Wait ∷ [] }
     requires going { IsGoing (state_of session.old).run }
-    ensures called { OnOk result (Called model.now (state_of session.old) (state_of session.new) (U.calls sut.old) (U.calls sut.new)
+    ensures called { OnOk result (CallAnswered model.now (state_of session.old) (state_of session.new) (U.calls sut.old) (U.calls sut.new)
         (U.hang_ups sut.old) (U.hang_ups sut.new) (U.faults sut.old) (U.faults sut.new)) }
     ensures ready { OnOk result (IsReady model.now session.new (U.dialled sut.new)) }
     ensures busy { OnOk result (IsAhead Next.GoesOn (state_of session.old) (state_of session.new)) }
@@ -162,8 +142,8 @@ fn wait<U: Sut>(
     ensures tracks { Tracks (U.dialled sut.old) (U.dialled sut.new) (ends_in session.old) (ends_in session.new) }
     ensures undue { OnOk result (due_in (state_of session.new).todo ≡ []) }
 {
-    let sign = wait_once(sut);
-    session.after_wait(alloc, sign)?;
+    let answer = wait_once(sut);
+    session.after_wait(alloc, answer)?;
     Ok(())
 }
 
@@ -181,7 +161,7 @@ fn transmit<U: Sut>(
     requires plain { IsPlainRun session.old.run }
     requires line { line.now ≡ Lines.sent_line value }
     requires prepared { IsPrepared value session.old prepared }
-    ensures called { (m : Model) → Called m (state_of session.old) (state_of session.new) (U.calls sut.old) (U.calls sut.new)
+    ensures called { (m : Model) → CallAnswered m (state_of session.old) (state_of session.new) (U.calls sut.old) (U.calls sut.new)
         (U.hang_ups sut.old) (U.hang_ups sut.new) (U.faults sut.old) (U.faults sut.new) }
     ensures told { ToldBy (state_of session.old).run (λ r. send_told value result r (state_of session.old)) (state_of session.new) }
     ensures kept { (m : Model) → Keeps m session.old.run → Keeps m session.new.run }
@@ -208,7 +188,7 @@ fn send<K: Sink, U: Sut>(
     requires ready { IsReady model.now session.old (U.dialled sut.old) }
     requires due { (state_of session.old).todo ≡ Doing.Send value ∷ [] }
     requires going { IsGoing (state_of session.old).run }
-    ensures went { OnOk result (Went model.now (state_of session.old) (state_of session.new) (K.taken sink.old) (K.taken sink.new) (U.calls sut.old) (U.calls sut.new)
+    ensures carried_out { OnOk result (CarriedOut model.now (state_of session.old) (state_of session.new) (K.taken sink.old) (K.taken sink.new) (U.calls sut.old) (U.calls sut.new)
         (U.hang_ups sut.old) (U.hang_ups sut.new) (U.faults sut.old) (U.faults sut.new) [] false) }
     ensures ready { OnOk result (IsReady model.now session.new (U.dialled sut.new)) }
     ensures busy { OnOk result (IsAhead Next.GoesOn (state_of session.old) (state_of session.new)) }
@@ -243,7 +223,7 @@ fn step<K: Sink, U: Sut>(
     requires ready { IsReady model.now session.old (U.dialled sut.old) }
     requires busy { IsBusy (state_of session.old).run (state_of session.old).todo }
     requires undue { due_in (state_of session.old).todo ≡ [] }
-    ensures went { IfOk result (λ n. Went model.now (state_of session.old) (state_of session.new) (K.taken sink.old) (K.taken sink.new) (U.calls sut.old) (U.calls sut.new)
+    ensures carried_out { IfOk result (λ n. CarriedOut model.now (state_of session.old) (state_of session.new) (K.taken sink.old) (K.taken sink.new) (U.calls sut.old) (U.calls sut.new)
         (U.hang_ups sut.old) (U.hang_ups sut.new) (U.faults sut.old) (U.faults sut.new) [] (has_left n)) }
     ensures ready { OnOk result (IsReady model.now session.new (U.dialled sut.new)) }
     ensures ahead { IfOk result (λ n. IsAhead n (state_of session.old) (state_of session.new)) }
@@ -294,7 +274,7 @@ pub(crate) fn carry_out<K: Sink, U: Sut>(
     requires ready { IsReady model.now session.old (U.dialled sut.old) }
     requires idle { (state_of session.old).todo ≡ [] }
     requires tied { IsTied (state_of session.old).run }
-    ensures went { IfOk result (λ q. Went model.now (state_of session.old) (state_of session.new) (K.taken sink.old) (K.taken sink.new) (U.calls sut.old) (U.calls sut.new)
+    ensures carried_out { IfOk result (λ q. CarriedOut model.now (state_of session.old) (state_of session.new) (K.taken sink.old) (K.taken sink.new) (U.calls sut.old) (U.calls sut.new)
         (U.hang_ups sut.old) (U.hang_ups sut.new) (U.faults sut.old) (U.faults sut.new) (line.now ∷ []) q) }
     ensures ready { OnOk result (IsReady model.now session.new (U.dialled sut.new)) }
     ensures idle { OnOk result ((state_of session.new).todo ≡ []) }

@@ -3,11 +3,11 @@ ghost use Rattle.txs_outside.specs.Causes.{FailsLast};
 ghost use Rattle.txs_outside.specs.Known.{Grows, Loses, Tells};
 ghost use Rattle.txs_terms.specs.Sets.{IsPlain};
 ghost use Rattle.txs_terms.specs.View.{term_of};
-ghost use Rattle.txs_drive.specs.Session.{first};
-ghost use Rattle.txs_drive.specs.Ready.{state_of, IsTied};
-ghost use Rattle.txs_drive.specs.Going.{Took, TookSome, IsReady, HasNoFeed, Conversed, Ended, read_bytes, IsRead};
+ghost use Rattle.txs_drive.specs.Session.{at_start};
+ghost use Rattle.txs_drive.specs.inner.Ready.{state_of, IsTied};
+ghost use Rattle.txs_drive.specs.inner.CarriedOut.{LinesCarriedOut, BytesCarriedOut, IsReady, HasNoFeed, CommandsCarriedOut, LastLineCarriedOut, read_bytes, IsRead};
 ghost use Rattle.txs_drive.specs.Served.{last_part, end};
-ghost use Rattle.txs_drive.specs.Stopping.{Stopped, StoppedIn, Broke, Tracks, ends_in};
+ghost use Rattle.txs_drive.specs.inner.Stopped.{Stopped, StoppedInBytes, StoppedInCommands, Tracks, ends_in};
 
 use crate::driver::carry_out;
 use crate::{Model, Session, Stop};
@@ -19,7 +19,7 @@ use txs_values::{Bytes, NoMemory};
 const LIMIT: usize = 16_777_216;
 
 /// How the commands came to their end.
-#[derive(Clone, Copy, Debug, PartialEq, Eq)]
+#[derive(Clone, Copy)]
 pub enum Finish {
     Quit,
     End,
@@ -28,9 +28,9 @@ pub enum Finish {
 }
 
 /// What a read gave.
-#[derive(Debug, Drop)]
+#[derive(Drop)]
 pub enum Read {
-    Piece(Bytes),
+    Bytes(Bytes),
     End,
     Failed,
 }
@@ -50,14 +50,14 @@ fn take_byte<K: Sink, U: Sut>(
     requires idle { (state_of session.old).todo ≡ [] }
     requires tied { IsTied (state_of session.old).run }
     requires line { HasNoFeed pending.old }
-    ensures took { IfOk result (λ q. Took model.now (state_of session.old) (state_of session.new) (K.taken sink.old) (K.taken sink.new) (U.calls sut.old) (U.calls sut.new)
+    ensures carried_out { IfOk result (λ q. LinesCarriedOut model.now (state_of session.old) (state_of session.new) (K.taken sink.old) (K.taken sink.new) (U.calls sut.old) (U.calls sut.new)
         (U.hang_ups sut.old) (U.hang_ups sut.new) (U.faults sut.old) (U.faults sut.new)
         (pending.old ++ byte ∷ []) pending.new q) }
     ensures ready { OnOk result (IsReady model.now session.new (U.dialled sut.new)) }
     ensures idle { OnOk result ((state_of session.new).todo ≡ []) }
     ensures tied { IfOk result (λ q. q ≡ false → IsTied (state_of session.new).run) }
     ensures line { OnOk result (HasNoFeed pending.new) }
-    ensures stopped { IfErr result (λ stop. StoppedIn stop model.now (state_of session.old) (ends_in session.new) (K.taken sink.old) (K.taken sink.new) (U.calls sut.old) (U.calls sut.new)
+    ensures stopped { IfErr result (λ stop. StoppedInBytes stop model.now (state_of session.old) (ends_in session.new) (K.taken sink.old) (K.taken sink.new) (U.calls sut.old) (U.calls sut.new)
         (U.hang_ups sut.old) (U.hang_ups sut.new) (U.faults sut.old) (U.faults sut.new) (pending.old ++ byte ∷ [])) }
     ensures tracks { Tracks (U.dialled sut.old) (U.dialled sut.new) (ends_in session.old) (ends_in session.new) }
     ensures sink { FailsLast (K.faults sink.old) (K.faults sink.new) (K.has_failed sink.new) (IsErrOf result Stop.Sink) }
@@ -73,13 +73,13 @@ fn take_byte<K: Sink, U: Sut>(
     }
 }
 
-/// Takes a piece of the commands; answers whether the session ends with it.
-fn take_piece<K: Sink, U: Sut>(
+/// Takes some bytes of the commands; answers whether the session ends with it.
+fn take_bytes<K: Sink, U: Sut>(
     alloc: Global,
     model: &Model,
     session: &mut Session,
     pending: &mut Bytes,
-    piece: &[u8],
+    bytes: &[u8],
     sink: &mut K,
     sut: &mut U,
 ) -> Result<bool, Stop>
@@ -88,20 +88,20 @@ fn take_piece<K: Sink, U: Sut>(
     requires idle { (state_of session.old).todo ≡ [] }
     requires tied { IsTied (state_of session.old).run }
     requires line { HasNoFeed pending.old }
-    ensures took { IfOk result (λ q. TookSome model.now (state_of session.old) (state_of session.new) (K.taken sink.old) (K.taken sink.new) (U.calls sut.old) (U.calls sut.new)
+    ensures carried_out { IfOk result (λ q. BytesCarriedOut model.now (state_of session.old) (state_of session.new) (K.taken sink.old) (K.taken sink.new) (U.calls sut.old) (U.calls sut.new)
         (U.hang_ups sut.old) (U.hang_ups sut.new) (U.faults sut.old) (U.faults sut.new)
-        (pending.old ++ piece.now) pending.new q) }
+        (pending.old ++ bytes.now) pending.new q) }
     ensures ready { OnOk result (IsReady model.now session.new (U.dialled sut.new)) }
     ensures idle { OnOk result ((state_of session.new).todo ≡ []) }
     ensures tied { IfOk result (λ q. q ≡ false → IsTied (state_of session.new).run) }
     ensures line { OnOk result (HasNoFeed pending.new) }
-    ensures stopped { IfErr result (λ stop. StoppedIn stop model.now (state_of session.old) (ends_in session.new) (K.taken sink.old) (K.taken sink.new) (U.calls sut.old) (U.calls sut.new)
-        (U.hang_ups sut.old) (U.hang_ups sut.new) (U.faults sut.old) (U.faults sut.new) (pending.old ++ piece.now)) }
+    ensures stopped { IfErr result (λ stop. StoppedInBytes stop model.now (state_of session.old) (ends_in session.new) (K.taken sink.old) (K.taken sink.new) (U.calls sut.old) (U.calls sut.new)
+        (U.hang_ups sut.old) (U.hang_ups sut.new) (U.faults sut.old) (U.faults sut.new) (pending.old ++ bytes.now)) }
     ensures tracks { Tracks (U.dialled sut.old) (U.dialled sut.new) (ends_in session.old) (ends_in session.new) }
     ensures sink { FailsLast (K.faults sink.old) (K.faults sink.new) (K.has_failed sink.new) (IsErrOf result Stop.Sink) }
     ensures calm { result ≢ Err Stop.Sink → K.faults sink.new ≡ K.faults sink.old }
 {
-    for b in piece {
+    for b in bytes {
         if take_byte(alloc, model, session, pending, *b, sink, sut)? {
             return Ok(true);
         }
@@ -109,7 +109,7 @@ fn take_piece<K: Sink, U: Sut>(
     Ok(false)
 }
 
-fn read_piece<S: Source>(alloc: Global, source: &mut S, room: usize) -> Result<Read, NoMemory>
+fn read_some<S: Source>(alloc: Global, source: &mut S, room: usize) -> Result<Read, NoMemory>
     requires some { 0 < room }
     requires most { room ≤ 4096 }
     ensures given { IfOk result (λ r. Grows (S.given source.old) (S.given source.new) (read_bytes r)) }
@@ -122,7 +122,7 @@ fn read_piece<S: Source>(alloc: Global, source: &mut S, room: usize) -> Result<R
 {
     let mut buf = [0u8; 4096];
     match source.read(&mut buf[..room]) {
-        Got::Bytes { len } => Ok(Read::Piece(Bytes::from_slice(alloc, &buf[..len])?)),
+        Got::Bytes { len } => Ok(Read::Bytes(Bytes::from_slice(alloc, &buf[..len])?)),
         Got::End => Ok(Read::End),
         Got::Failed => Ok(Read::Failed),
     }
@@ -157,7 +157,7 @@ fn take_last<K: Sink, U: Sut>(
     requires ready { IsReady model.now session.old (U.dialled sut.old) }
     requires idle { (state_of session.old).todo ≡ [] }
     requires tied { IsTied (state_of session.old).run }
-    ensures went { IfOk result (λ f. Ended model.now (state_of session.old) (state_of session.new) (K.taken sink.old) (K.taken sink.new) (U.calls sut.old) (U.calls sut.new)
+    ensures carried_out { IfOk result (λ f. LastLineCarriedOut model.now (state_of session.old) (state_of session.new) (K.taken sink.old) (K.taken sink.new) (U.calls sut.old) (U.calls sut.new)
         (U.hang_ups sut.old) (U.hang_ups sut.new) (U.faults sut.old) (U.faults sut.new)
         line.now f) }
     ensures ready { OnOk result (IsReady model.now session.new (U.dialled sut.new)) }
@@ -188,11 +188,11 @@ pub(crate) fn converse<S: Source, K: Sink, U: Sut>(
 ) -> Result<Finish, Stop>
     requires start { IsPlain 0 (term_of model.now.start) }
     requires ready { IsReady model.now session.old (U.dialled sut.old) }
-    requires new { state_of session.old ≡ first }
-    ensures conversed { IfOk result (λ f. Conversed model.now f (state_of session.new) (S.given source.old) (S.given source.new) (S.left source.old) (S.left source.new) (S.at_end source.new) (K.taken sink.old) (K.taken sink.new) (U.calls sut.old) (U.calls sut.new)
+    requires new { state_of session.old ≡ at_start }
+    ensures carried_out { IfOk result (λ f. CommandsCarriedOut model.now f (state_of session.new) (S.given source.old) (S.given source.new) (S.left source.old) (S.left source.new) (S.at_end source.new) (K.taken sink.old) (K.taken sink.new) (U.calls sut.old) (U.calls sut.new)
         (U.hang_ups sut.old) (U.hang_ups sut.new) (U.faults sut.old) (U.faults sut.new)) }
     ensures ready { OnOk result (IsReady model.now session.new (U.dialled sut.new)) }
-    ensures broke { IfErr result (λ stop. Broke stop model.now (ends_in session.new) (S.given source.old) (S.given source.new) (S.left source.old) (S.left source.new) (S.at_end source.new) (K.taken sink.old) (K.taken sink.new) (U.calls sut.old) (U.calls sut.new)
+    ensures stopped { IfErr result (λ stop. StoppedInCommands stop model.now (ends_in session.new) (S.given source.old) (S.given source.new) (S.left source.old) (S.left source.new) (S.at_end source.new) (K.taken sink.old) (K.taken sink.new) (U.calls sut.old) (U.calls sut.new)
         (U.hang_ups sut.old) (U.hang_ups sut.new) (U.faults sut.old) (U.faults sut.new)) }
     ensures tracks { Tracks (U.dialled sut.old) (U.dialled sut.new) (ends_in session.old) (ends_in session.new) }
     ensures source { FailsLast (S.faults source.old) (S.faults source.new) (S.has_failed source.new) (result ≡ Ok Finish.Failed) }
@@ -203,19 +203,19 @@ pub(crate) fn converse<S: Source, K: Sink, U: Sut>(
     let mut pending = Bytes::new(alloc);
     let mut taken: usize = 0;
     'reads: loop {
-        match read_piece(alloc, source, room_left(taken))? {
+        match read_some(alloc, source, room_left(taken))? {
             Read::Failed => return Ok(Finish::Failed),
             Read::End => {
                 let finish = take_last(alloc, model, session, pending.as_slice(), sink, sut)?;
                 return Ok(finish);
             }
-            Read::Piece(piece) => {
+            Read::Bytes(bytes) => {
                 if taken == LIMIT {
                     return Ok(Finish::TooLong);
                 }
-                taken += piece.len();
-                let piece = piece.as_slice();
-                if take_piece(alloc, model, session, &mut pending, piece, sink, sut)? {
+                taken += bytes.len();
+                let bytes = bytes.as_slice();
+                if take_bytes(alloc, model, session, &mut pending, bytes, sink, sut)? {
                     return Ok(Finish::Quit);
                 }
             }

@@ -1,11 +1,11 @@
 ghost use Rattle.std.specs.Prelude.{◌≡◌, ◌≤◌, ◌&&◌, map, length, MatchOption, None, Some};
-ghost use Rattle.txs_drive.specs.Pieces.{are_same, front_words, in_words, kept, out_words, pieces_of, placed, taken_apart, word_at};
+ghost use Rattle.txs_drive.specs.inner.FileWords.{are_same, front_words, in_words, kept, out_words, file_words_of, placed, taken_apart, word_at};
 
 use txs_values::Bytes;
 
 /// The words that a file may choose.
 #[derive(Clone, Copy)]
-pub struct Pieces<'a> {
+pub struct FileWords<'a> {
     pub chandef: &'a [u8],
     pub input: &'a [u8],
     pub output: &'a [u8],
@@ -42,10 +42,10 @@ fn word_at(words: &[Bytes], place: usize) -> &[u8]
     "".as_bytes()
 }
 
-fn placed<'a>(front: &'a [Bytes], behaviour: &'a [Bytes], back: &'a [Bytes]) -> Pieces<'a>
-    ensures { pieces_of result ≡ placed front.now behaviour.now back.now }
+fn placed<'a>(front: &'a [Bytes], behaviour: &'a [Bytes], back: &'a [Bytes]) -> FileWords<'a>
+    ensures { file_words_of result ≡ placed front.now behaviour.now back.now }
 {
-    Pieces {
+    FileWords {
         chandef: word_at(front, 1),
         input: word_at(front, 3),
         output: word_at(front, 5),
@@ -72,111 +72,111 @@ fn are_words(words: &[Bytes], wanted: &[&[u8]]) -> bool
     }
 }
 
-fn is_front(words: &[Bytes], pieces: Pieces<'_>) -> bool
-    ensures { result ≡ are_same words.now (front_words (pieces_of pieces.entry)) }
+fn is_front(words: &[Bytes], file: FileWords<'_>) -> bool
+    ensures { result ≡ are_same words.now (front_words (file_words_of file.entry)) }
 {
     let wanted: [&[u8]; FRONT] = [
         "CHANDEF".as_bytes(),
-        pieces.chandef,
+        file.chandef,
         "::=".as_bytes(),
-        pieces.input,
+        file.input,
         ",".as_bytes(),
-        pieces.output,
+        file.output,
         "::".as_bytes(),
         "Int".as_bytes(),
         "ENDDEF".as_bytes(),
         "MODELDEF".as_bytes(),
-        pieces.name,
+        file.name,
         "::=".as_bytes(),
         "CHAN".as_bytes(),
         "IN".as_bytes(),
-        pieces.input,
+        file.input,
         "CHAN".as_bytes(),
         "OUT".as_bytes(),
-        pieces.output,
+        file.output,
         "BEHAVIOUR".as_bytes(),
     ];
     are_words(words, &wanted)
 }
 
-fn is_out(words: &[Bytes], pieces: Pieces<'_>) -> bool
-    ensures { result ≡ are_same words.now (out_words (pieces_of pieces.entry)) }
+fn is_out(words: &[Bytes], file: FileWords<'_>) -> bool
+    ensures { result ≡ are_same words.now (out_words (file_words_of file.entry)) }
 {
     let wanted: [&[u8]; OUT] = [
         "ENDDEF".as_bytes(),
         "CNECTDEF".as_bytes(),
-        pieces.link,
+        file.link,
         "::=".as_bytes(),
         "CLIENTSOCK".as_bytes(),
         "CHAN".as_bytes(),
         "OUT".as_bytes(),
-        pieces.input,
+        file.input,
         "HOST".as_bytes(),
-        pieces.host,
+        file.host,
         "PORT".as_bytes(),
-        pieces.port_out,
+        file.port_out,
         "ENCODE".as_bytes(),
-        pieces.input,
+        file.input,
         "?".as_bytes(),
-        pieces.sent,
+        file.sent,
         "->".as_bytes(),
         "!".as_bytes(),
         "toString".as_bytes(),
         "(".as_bytes(),
-        pieces.sent,
+        file.sent,
         ")".as_bytes(),
     ];
     are_words(words, &wanted)
 }
 
-fn is_in(words: &[Bytes], pieces: Pieces<'_>) -> bool
-    ensures { result ≡ are_same words.now (in_words (pieces_of pieces.entry)) }
+fn is_in(words: &[Bytes], file: FileWords<'_>) -> bool
+    ensures { result ≡ are_same words.now (in_words (file_words_of file.entry)) }
 {
     let wanted: [&[u8]; BACK - OUT] = [
         "CHAN".as_bytes(),
         "IN".as_bytes(),
-        pieces.output,
+        file.output,
         "HOST".as_bytes(),
-        pieces.host,
+        file.host,
         "PORT".as_bytes(),
-        pieces.port_in,
+        file.port_in,
         "DECODE".as_bytes(),
-        pieces.output,
+        file.output,
         "!".as_bytes(),
         "fromString".as_bytes(),
         "(".as_bytes(),
-        pieces.heard,
+        file.heard,
         ")".as_bytes(),
         "<-".as_bytes(),
         "?".as_bytes(),
-        pieces.heard,
+        file.heard,
         "ENDDEF".as_bytes(),
     ];
     are_words(words, &wanted)
 }
 
-fn is_form(front: &[Bytes], outward: &[Bytes], inward: &[Bytes], pieces: Pieces<'_>) -> bool
-    ensures { result ≡ (are_same front.now (front_words (pieces_of pieces.entry)) && (are_same outward.now (out_words (pieces_of pieces.entry)) && are_same inward.now (in_words (pieces_of pieces.entry)))) }
+fn is_form(front: &[Bytes], outward: &[Bytes], inward: &[Bytes], file: FileWords<'_>) -> bool
+    ensures { result ≡ (are_same front.now (front_words (file_words_of file.entry)) && (are_same outward.now (out_words (file_words_of file.entry)) && are_same inward.now (in_words (file_words_of file.entry)))) }
 {
-    is_front(front, pieces) && is_out(outward, pieces) && is_in(inward, pieces)
+    is_front(front, file) && is_out(outward, file) && is_in(inward, file)
 }
 
-fn kept<'a>(front: &'a [Bytes], behaviour: &'a [Bytes], back: &'a [Bytes]) -> Option<Pieces<'a>>
+fn kept<'a>(front: &'a [Bytes], behaviour: &'a [Bytes], back: &'a [Bytes]) -> Option<FileWords<'a>>
     requires { 22 ≤ length back.now }
-    ensures { MatchOption result (kept front.now behaviour.now back.now ≡ None) (λ pieces. kept front.now behaviour.now back.now ≡ Some (pieces_of pieces)) }
+    ensures { MatchOption result (kept front.now behaviour.now back.now ≡ None) (λ file. kept front.now behaviour.now back.now ≡ Some (file_words_of file)) }
 {
-    let pieces = placed(front, behaviour, back);
+    let file = placed(front, behaviour, back);
     let (outward, inward) = back.split_at(OUT);
-    if is_form(front, outward, inward, pieces) {
-        Some(pieces)
+    if is_form(front, outward, inward, file) {
+        Some(file)
     } else {
         None
     }
 }
 
 /// The words that a file may choose, where all others are those of the form.
-pub fn take_apart(words: &[Bytes]) -> Option<Pieces<'_>>
-    ensures { MatchOption result (taken_apart words.now ≡ None) (λ pieces. taken_apart words.now ≡ Some (pieces_of pieces)) }
+pub fn take_apart(words: &[Bytes]) -> Option<FileWords<'_>>
+    ensures { MatchOption result (taken_apart words.now ≡ None) (λ file. taken_apart words.now ≡ Some (file_words_of file)) }
 {
     if words.len() < FRONT + BACK {
         return None;

@@ -3,13 +3,13 @@ ghost use Rattle.std.specs.List.{AllByRecursion, list_all};
 ghost use Rattle.txs_drive.specs.File;
 ghost use Rattle.txs_drive.specs.File.{IsFile, StatesOnly};
 ghost use Rattle.txs_drive.specs.Form.{words_of};
-ghost use Rattle.txs_drive.specs.Pieces.{are_named, host_read, is_in_form, model_read, parts_of, pieces_of, same_port, words_read};
-ghost use Rattle.txs_drive.specs.Reading.{Reads, port_read};
+ghost use Rattle.txs_drive.specs.inner.FileWords.{are_named, host_read, is_in_form, model_read, parts_of, file_words_of, same_port, words_read};
+ghost use Rattle.txs_drive.specs.inner.Parsing.{Reads, port_read};
 ghost use Rattle.txs_terms.specs.Sets.{IsPlain};
 ghost use Rattle.txs_terms.specs.View.{term_of};
 
 use crate::behaviour::start_of;
-use crate::form::{Pieces, take_apart};
+use crate::form::{FileWords, take_apart};
 use crate::names::{is_name, known_name};
 use crate::numbers::port_of;
 use crate::words::words_of;
@@ -74,60 +74,60 @@ fn shared_port(outward: &[u8], inward: &[u8]) -> Option<u16>
     }
 }
 
-fn are_named(pieces: Pieces<'_>) -> bool
-    ensures { result ≡ are_named (pieces_of pieces.entry) }
+fn are_named(file: FileWords<'_>) -> bool
+    ensures { result ≡ are_named (file_words_of file.entry) }
 {
-    is_name(pieces.chandef)
-        && is_name(pieces.input)
-        && is_name(pieces.output)
-        && is_name(pieces.name)
-        && is_name(pieces.link)
-        && is_name(pieces.sent)
-        && is_name(pieces.heard)
+    is_name(file.chandef)
+        && is_name(file.input)
+        && is_name(file.output)
+        && is_name(file.name)
+        && is_name(file.link)
+        && is_name(file.sent)
+        && is_name(file.heard)
 }
 
-fn is_in_form(pieces: Pieces<'_>) -> bool
-    ensures { result ≡ is_in_form (pieces_of pieces.entry) }
+fn is_in_form(file: FileWords<'_>) -> bool
+    ensures { result ≡ is_in_form (file_words_of file.entry) }
 {
-    are_named(pieces) && pieces.input != pieces.output && pieces.behaviour.len() <= MOST_WORDS
+    are_named(file) && file.input != file.output && file.behaviour.len() <= MOST_WORDS
 }
 
 fn made(
     alloc: Global,
-    pieces: Pieces<'_>,
+    file: FileWords<'_>,
     host: Text,
     port: u16,
     start: Term,
 ) -> Result<Model, NoMemory>
-    requires { are_named (pieces_of pieces) ≡ true }
-    ensures { IfOk result (λ m. parts_of m ≡ record { input = pieces.entry.input.now; output = pieces.entry.output.now; name = pieces.entry.name.now; link = pieces.entry.link.now; host = host; port = port; start = term_of start }) }
+    requires { are_named (file_words_of file) ≡ true }
+    ensures { IfOk result (λ m. parts_of m ≡ record { input = file.entry.input.now; output = file.entry.output.now; name = file.entry.name.now; link = file.entry.link.now; host = host; port = port; start = term_of start }) }
 {
     Ok(Model {
-        input: known_name(alloc, pieces.input)?,
-        output: known_name(alloc, pieces.output)?,
-        name: known_name(alloc, pieces.name)?,
-        link: known_name(alloc, pieces.link)?,
+        input: known_name(alloc, file.input)?,
+        output: known_name(alloc, file.output)?,
+        name: known_name(alloc, file.name)?,
+        link: known_name(alloc, file.link)?,
         host,
         port,
         start,
     })
 }
 
-fn model_of(alloc: Global, pieces: Pieces<'_>) -> Result<Model, LoadFault>
-    requires { IsUtf8 pieces.host.now }
-    ensures { Reads parts_of result (model_read (pieces_of pieces.entry)) }
+fn model_of(alloc: Global, file: FileWords<'_>) -> Result<Model, LoadFault>
+    requires { IsUtf8 file.host.now }
+    ensures { Reads parts_of result (model_read (file_words_of file.entry)) }
 {
-    if !is_in_form(pieces) {
+    if !is_in_form(file) {
         return Err(LoadFault::Later);
     }
-    match shared_port(pieces.port_out, pieces.port_in) {
+    match shared_port(file.port_out, file.port_in) {
         None => Err(LoadFault::Later),
-        Some(port) => match host_text(alloc, pieces.host) {
+        Some(port) => match host_text(alloc, file.host) {
             Err(fault) => Err(fault),
             Ok(host) => {
-                match start_of(alloc, pieces.input, pieces.output, pieces.behaviour) {
+                match start_of(alloc, file.input, file.output, file.behaviour) {
                     Err(fault) => Err(fault),
-                    Ok(start) => Ok(made(alloc, pieces, host, port, start)?),
+                    Ok(start) => Ok(made(alloc, file, host, port, start)?),
                 }
             }
         },
@@ -140,7 +140,7 @@ fn load_words(alloc: Global, words: &[Bytes]) -> Result<Model, LoadFault>
 {
     match take_apart(words) {
         None => Err(LoadFault::Later),
-        Some(pieces) => model_of(alloc, pieces),
+        Some(file) => model_of(alloc, file),
     }
 }
 
@@ -166,6 +166,3 @@ pub fn run_load(alloc: Global, bytes: &[u8]) -> Result<Model, LoadFault>
         Err(_) => Err(LoadFault::Later),
     }
 }
-
-#[cfg(test)]
-mod tests;

@@ -1,9 +1,8 @@
-use std::alloc::AllocError;
 use thiserror::Error;
 use txs_values::NoMemory;
 
 /// Why a file was not read.
-#[derive(Clone, Copy, Debug, PartialEq, Eq, Error)]
+#[derive(Clone, Copy, Debug, Error)]
 pub enum LoadFault {
     #[error("the file is not of the form that is read so far")]
     Later,
@@ -18,17 +17,6 @@ impl From<NoMemory> for LoadFault {
     ghost from_gives = { λ _ e. e ≡ NoMemory };
 
     fn from(_e: NoMemory) -> LoadFault {
-        LoadFault::NoMemory
-    }
-}
-
-impl From<AllocError> for LoadFault {
-    ghost use Rattle.std.specs.Prelude.{◌≡◌};
-    ghost use Rattle.txs_drive.specs.declared.load_fault.LoadFault.TheVariants.{NoMemory};
-
-    ghost from_gives = { λ _ e. e ≡ NoMemory };
-
-    fn from(_e: AllocError) -> LoadFault {
         LoadFault::NoMemory
     }
 }

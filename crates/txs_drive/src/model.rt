@@ -2,7 +2,7 @@ use txs_terms::Term;
 use txs_values::Text;
 
 /// What a file states: one model over two channels of type Int, and one connection.
-#[derive(Debug, Drop)]
+#[derive(Drop)]
 pub struct Model {
     /// The name of the input channel, whose number is 0.
     pub input: Text,

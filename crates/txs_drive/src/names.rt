@@ -2,12 +2,12 @@ ghost use Rattle.std.specs.Prelude.{◌≡◌, map, IfOk};
 ghost use Rattle.std.specs.List.{list_all};
 ghost use Rattle.txs_drive.specs.Form;
 ghost use Rattle.txs_drive.specs.Form.{IsName};
-ghost use Rattle.txs_drive.specs.Reading.{Reads, is_listed, name_read};
+ghost use Rattle.txs_drive.specs.inner.Parsing.{Reads, is_listed, name_read};
 ghost use Rattle.txs_values.specs.Spelling;
 
 use crate::LoadFault;
 use std::alloc::Global;
-use txs_values::{NoMemory, Text};
+use txs_values::{NoMemory, Text, is_letter, is_name_byte};
 
 const RESERVED: [&str; 40] = [
     "TYPEDEF",
@@ -51,24 +51,6 @@ const RESERVED: [&str; 40] = [
     "FI",
     "QUIET",
 ];
-
-fn is_letter(byte: u8) -> bool
-    ensures { result ≡ Spelling.is_letter byte }
-{
-    (b'A' <= byte && byte <= b'Z') || (b'a' <= byte && byte <= b'z')
-}
-
-pub fn is_digit(byte: u8) -> bool
-    ensures { result ≡ Spelling.is_digit byte }
-{
-    b'0' <= byte && byte <= b'9'
-}
-
-fn is_name_byte(byte: u8) -> bool
-    ensures { result ≡ Spelling.is_name_byte byte }
-{
-    is_letter(byte) || is_digit(byte) || byte == b'_'
-}
 
 fn are_name_bytes(bytes: &[u8]) -> bool
     ensures { result ≡ list_all Spelling.is_name_byte bytes.now }

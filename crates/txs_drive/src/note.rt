@@ -1,5 +1,5 @@
 /// What a run has seen: an action sent on the input channel, one received on the output channel, or quiescence.
-#[derive(Clone, Copy, Debug, PartialEq, Eq)]
+#[derive(Clone, Copy)]
 pub enum Seen {
     In(i128),
     Out(i128),
@@ -7,7 +7,7 @@ pub enum Seen {
 }
 
 /// How a run ends.
-#[derive(Clone, Copy, Debug, PartialEq, Eq)]
+#[derive(Clone, Copy)]
 pub enum Ending {
     /// The rules do not allow what was observed.
     Fail,
@@ -18,7 +18,7 @@ pub enum Ending {
 }
 
 /// A line of the transcript. Actions and quiescence are numbered from 1.
-#[derive(Clone, Copy, Debug, PartialEq, Eq)]
+#[derive(Clone, Copy)]
 pub enum Note {
     Tester,
     In { number: usize, value: i128 },

@@ -1,9 +1,9 @@
 ghost use Rattle.std.specs.Prelude.{◌≡◌};
 ghost use Rattle.std.specs.List.{list_all};
-ghost use Rattle.txs_drive.specs.Reading.{are_digits, nonzero, number_read, port_read};
+ghost use Rattle.txs_drive.specs.inner.Parsing.{are_digits, nonzero, number_read, port_read};
 ghost use Rattle.txs_values.specs.Spelling;
 
-use crate::names::is_digit;
+use txs_values::is_digit;
 
 fn all_digits(bytes: &[u8]) -> bool
     ensures { result ≡ list_all Spelling.is_digit bytes.now }

@@ -6,7 +6,7 @@ ghost use Rattle.txs_terms.specs.View.{term_of};
 ghost use Rattle.txs_drive.specs.Course.{hung_after};
 ghost use Rattle.txs_drive.specs.Served.{Served, last_of};
 ghost use Rattle.txs_drive.specs.Cut.{Torn, CutShort, by_sink, by_memory};
-ghost use Rattle.txs_drive.specs.Going.{code_of};
+ghost use Rattle.txs_drive.specs.inner.CarriedOut.{code_of};
 
 use crate::driver::say;
 use crate::feed::converse;

@@ -12,7 +12,7 @@ use txs_terms::{Action, Term, after_action, after_quiescence, first};
 use txs_values::NoMemory;
 
 /// A run of a tester.
-#[derive(Debug, Drop)]
+#[derive(Drop)]
 pub struct Run {
     /// What was numbered, from the first on.
     pub trace: Vec<Seen>,
@@ -25,7 +25,7 @@ pub struct Run {
 
 impl Run {
     ghost use Rattle.txs_drive.specs.Session.{new_run, seen_run, over_run};
-    ghost use Rattle.txs_drive.specs.Ready.{run_of, IsKept, HasRoom};
+    ghost use Rattle.txs_drive.specs.inner.Ready.{run_of, IsKept, HasRoom};
 
     /// A run whose ends are not dialled yet.
     pub(crate) fn begin(alloc: Global, model: &Model) -> Result<Run, NoMemory>

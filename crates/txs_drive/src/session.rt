@@ -5,14 +5,14 @@ ghost use Rattle.txs_drive.specs.Session as reference;
 ghost use Rattle.txs_drive.specs.Session.{seen_note};
 
 use crate::run::set_after;
-use crate::{Command, Doing, Ending, Model, Note, Run, Seen, Sign, read_command};
+use crate::{Answer, Command, Doing, Ending, Model, Note, Run, Seen, read_command};
 use sqlite_items::Items;
 use std::alloc::Global;
 use txs_terms::Term;
 use txs_values::NoMemory;
 
 /// One session: its run, and what it is to do next.
-#[derive(Debug, Drop)]
+#[derive(Drop)]
 pub struct Session {
     run: Option<Run>,
     has_failed: bool,
@@ -20,7 +20,7 @@ pub struct Session {
 }
 
 /// What a run goes on with behind an action, made before it is sent.
-#[derive(Debug, Drop)]
+#[derive(Drop)]
 pub(crate) struct Prepared {
     /// The terms after the action.
     set: Items<Term>,
@@ -78,12 +78,12 @@ impl Session {
     ghost use Rattle.std.specs.Prelude.{if◌then◌else◌};
     ghost use Rattle.txs_drive.specs.Commands.{command_of};
     ghost use Rattle.txs_drive.specs.Course.{asks_nothing};
-    ghost use Rattle.txs_drive.specs.Session.{first, started, is_going, dialled_of, hanging, Carries, IfGoing, Stimulates, refused, does, dial_told, send_told, Judges, Heeds, goes_on, seen_run, over_run, ends_with, done};
-    ghost use Rattle.txs_drive.specs.Ready.{state_of, run_of, Keeps, IsBusy, IsGoing, IsFresh, IsTied, IsNext, ToldBy, Judged, HeedsBy, IsPlainRun, IsMoved, IsOver, HasRoomNow, IsPrepared, AllowedNow, IsObserved, next_number, ends_after};
+    ghost use Rattle.txs_drive.specs.Session.{at_start, started, is_going, dialled_of, hanging, Carries, IfGoing, Stimulates, refused, does, dial_told, send_told, Judges, Heeds, goes_on, seen_run, over_run, ends_with, done};
+    ghost use Rattle.txs_drive.specs.inner.Ready.{state_of, run_of, Keeps, IsBusy, IsGoing, IsFresh, IsTied, IsNext, ToldBy, Judged, HeedsBy, IsPlainRun, IsMoved, IsOver, HasRoomNow, IsPrepared, AllowedNow, IsObserved, next_number, ends_after};
 
     /// A session before its first line.
     pub fn new(alloc: Global) -> Session
-        ensures { state_of result ≡ first }
+        ensures { state_of result ≡ at_start }
     {
         Session {
             run: None,
@@ -451,21 +451,21 @@ impl Session {
     }
 
     /// The answer to `Wait`, by what it says.
-    pub fn after_wait(&mut self, alloc: Global, sign: Sign) -> Result<(), NoMemory>
+    pub fn after_wait(&mut self, alloc: Global, answer: Answer) -> Result<(), NoMemory>
         requires due { (state_of self.old).todo ≡ Doing.Wait ∷ [] }
         requires going { IsGoing (state_of self.old).run }
         requires plain { IsPlainRun self.old.run }
-        ensures heeds { OnOk result ((m : Model) → Keeps m self.old.run → HeedsBy m sign (state_of self.old).run (state_of self.old) (state_of self.new)) }
+        ensures heeds { OnOk result ((m : Model) → Keeps m self.old.run → HeedsBy m answer (state_of self.old).run (state_of self.old) (state_of self.new)) }
         ensures kept { OnOk result ((m : Model) → Keeps m self.old.run → Keeps m self.new.run) }
         ensures plain { OnOk result (IsPlainRun self.new.run) }
         ensures busy { OnOk result (IsBusy (state_of self.new).run (state_of self.new).todo) }
         ensures ends { dialled_of (state_of self.new).run ≡ dialled_of (state_of self.old).run }
     {
-        match sign {
-            Sign::Number(value) => Ok(self.judge(alloc, Seen::Out(value))?),
-            Sign::Quiet => Ok(self.judge(alloc, Seen::Quiet)?),
-            Sign::Breaks => Ok(self.end(alloc, Ending::Link)?),
-            Sign::Later => Ok(self.end(alloc, Ending::Later)?),
+        match answer {
+            Answer::Number(value) => Ok(self.judge(alloc, Seen::Out(value))?),
+            Answer::Quiet => Ok(self.judge(alloc, Seen::Quiet)?),
+            Answer::Breaks => Ok(self.end(alloc, Ending::Link)?),
+            Answer::Later => Ok(self.end(alloc, Ending::Later)?),
         }
     }
 }

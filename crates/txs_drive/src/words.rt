@@ -1,7 +1,7 @@
 ghost use Rattle.std.specs.Prelude.{◌≡◌, ◌++◌, ◌∷◌, List, ℕ, IfOk, OnOk};
 ghost use Rattle.txs_drive.specs.Form;
 ghost use Rattle.txs_drive.specs.Form.{words_of};
-ghost use Rattle.txs_drive.specs.Reading.{HasNoGap};
+ghost use Rattle.txs_drive.specs.inner.Parsing.{HasNoGap};
 
 use sqlite_items::Items;
 use std::alloc::Global;
@@ -34,8 +34,8 @@ fn add_byte(
     if word.len() == 0 {
         return Ok(());
     }
-    let whole = mem::replace(word, Bytes::new(alloc));
-    words.push(whole)?;
+    let finished = mem::replace(word, Bytes::new(alloc));
+    words.push(finished)?;
     Ok(())
 }
 

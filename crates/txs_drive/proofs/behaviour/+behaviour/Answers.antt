@@ -2,9 +2,9 @@ use Rattle.std.proofs.Common.{◌≡◌, ℕ, List, [], ◌∷◌, ◌++◌, ◌
 use Rattle.txs_terms.specs.View
 use Rattle.txs_terms.specs.View.{term_of}
 use Rattle.txs_drive.specs.Form.{tight}
-use Rattle.txs_drive.specs.Reading.{front_of, front_read, prefix_read, position_read, channel_read, binder}
+use Rattle.txs_drive.specs.inner.Parsing.{front_of, front_read, prefix_read, position_read, channel_read, binder}
 use Rattle.txs_drive.proofs.Readers.{prefix-words, stopped, stepped, tight-steps, loose-steps}
-use Rattle.txs_drive.proofs.Tests.{eq-bytes, not-false}
+use Rattle.txs_values.proofs.Tests.{eq-bytes, not-false}
 use Rattle.txs_drive.proofs.behaviour.+behaviour.Goals as goal
 
 pub loose_of-returns-in-Ok-clause-read : goal.loose_of-returns-in-Ok-clause-read

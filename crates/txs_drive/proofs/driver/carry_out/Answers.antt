@@ -1,5 +1,5 @@
 use Rattle.std.proofs.Common.{◌∷◌, [], ◌∙◌, ap, refl, sym}
-use Rattle.txs_drive.specs.Ready.{state_of}
+use Rattle.txs_drive.specs.inner.Ready.{state_of}
 use Rattle.txs_drive.proofs.Calls.{dialled_same}
 use Rattle.txs_drive.proofs.Courses.{went_then, went_line}
 use Rattle.txs_drive.specs.declared.driver.Stop.TheVariants.{NoMemory}
@@ -25,7 +25,7 @@ steps-init g c = record {
 
 pub steps-preserved : goal.steps-preserved
 steps-preserved g c =
-    let went = rw c.in-GoesOn.is at c.in_ok-step.ensures.went in
+    let went = rw c.in-GoesOn.is at c.in_ok-step.ensures.carried_out in
     let ahead = rw c.in-GoesOn.is at c.in_ok-step.ensures.ahead in
     record {
       went = went_then _ _ _ _ _ _ _ _ _ _ _ _ _ _ _ _ _ _ _ c.steps.invariant.went went;
@@ -36,11 +36,11 @@ steps-preserved g c =
       calm = c.in_ok-step.ensures.calm (λ e. cc) ∙ c.steps.invariant.calm;
     }
 
-pub returns-in-Idle-clause-went : goal.returns-in-Idle-clause-went
-returns-in-Idle-clause-went g c = let went = rw c.in-Idle.is at c.in_ok-step.ensures.went in went_then _ _ _ _ _ _ _ _ _ _ _ _ _ _ _ _ _ _ _ c.steps.invariant.went went
+pub returns-in-Idle-clause-carried_out : goal.returns-in-Idle-clause-carried_out
+returns-in-Idle-clause-carried_out g c = let went = rw c.in-Idle.is at c.in_ok-step.ensures.carried_out in went_then _ _ _ _ _ _ _ _ _ _ _ _ _ _ _ _ _ _ _ c.steps.invariant.went went
 
-pub returns-in-Quit-clause-went : goal.returns-in-Quit-clause-went
-returns-in-Quit-clause-went g c = let went = rw c.in-Quit.is at c.in_ok-step.ensures.went in went_then _ _ _ _ _ _ _ _ _ _ _ _ _ _ _ _ _ _ _ c.steps.invariant.went went
+pub returns-in-Quit-clause-carried_out : goal.returns-in-Quit-clause-carried_out
+returns-in-Quit-clause-carried_out g c = let went = rw c.in-Quit.is at c.in_ok-step.ensures.carried_out in went_then _ _ _ _ _ _ _ _ _ _ _ _ _ _ _ _ _ _ _ c.steps.invariant.went went
 
 pub returns-in_err-line-clause-stopped : goal.returns-in_err-line-clause-stopped
 returns-in_err-line-clause-stopped g c =

@@ -1,6 +1,6 @@
 use Rattle.std.proofs.Common.{◌≡◌, [], refl, arith, rules}
 use Rattle.txs_drive.specs.Lines.{line_of}
-use Rattle.txs_drive.specs.Ready.{state_of}
+use Rattle.txs_drive.specs.inner.Ready.{state_of}
 use Rattle.txs_drive.proofs.Calls.{dialled_same}
 use Rattle.txs_drive.proofs.Courses.{went_said, went_hung, went_idle, went_quit}
 use Rattle.txs_drive.specs.declared.driver.Stop.TheVariants.{Sink, NoMemory}
@@ -29,8 +29,8 @@ send-requires-clause-ready g c = record {
   dialled = dialled_same _ _ _ _ refl c.in-Send.ensures.ends c.requires.ready.dialled;
 }
 
-pub returns-in_ok-say-in-Say-clause-went : goal.returns-in_ok-say-in-Say-clause-went
-returns-in_ok-say-in-Say-clause-went g c =
+pub returns-in_ok-say-in-Say-clause-carried_out : goal.returns-in_ok-say-in-Say-clause-carried_out
+returns-in_ok-say-in-Say-clause-carried_out g c =
     let n = c.in-Say.ensures.next in
     let line : c.as_str.result.now ≡ line_of c.args.model.now c.in-Say.note = search rules in
     went_said c.args.model.now (state_of c.args.session.now) (state_of c.next.new.self) _ _ _ _ _ c.in-Say.note n.0 c.as_str.result.now n.1 n.2 line c.in_ok-say-in-Say.ensures.ok
@@ -42,8 +42,8 @@ returns-in_ok-say-in-Say-clause-ready g c = record {
   dialled = dialled_same _ _ _ _ refl c.in-Say.ensures.ends c.requires.ready.dialled;
 }
 
-pub returns-in-HangUp-clause-went : goal.returns-in-HangUp-clause-went
-returns-in-HangUp-clause-went g c =
+pub returns-in-HangUp-clause-carried_out : goal.returns-in-HangUp-clause-carried_out
+returns-in-HangUp-clause-carried_out g c =
     let n = c.in-HangUp.ensures.next in
     went_hung c.args.model.now (state_of c.args.session.now) (state_of c.next.new.self) _ _ _ _ _ _ _ n.0 n.1 n.2 c.hang_up.ensures.calls c.hang_up.ensures.hang_ups c.hang_up.ensures.faults
 
@@ -54,8 +54,8 @@ returns-in-HangUp-clause-ready g c = record {
   dialled = λ lt. absurd (omega (arith, lt, c.in-HangUp.ensures.ends));
 }
 
-pub returns-in-Idle-clause-went : goal.returns-in-Idle-clause-went
-returns-in-Idle-clause-went g c =
+pub returns-in-Idle-clause-carried_out : goal.returns-in-Idle-clause-carried_out
+returns-in-Idle-clause-carried_out g c =
     let n = c.in-Idle.ensures.next in
     went_idle c.args.model.now (state_of c.args.session.now) (state_of c.next.new.self) _ _ _ _ n.0 n.1 n.2
 
@@ -66,8 +66,8 @@ returns-in-Idle-clause-ready g c = record {
   dialled = dialled_same _ _ _ _ refl c.in-Idle.ensures.ends c.requires.ready.dialled;
 }
 
-pub returns-in-Quit-clause-went : goal.returns-in-Quit-clause-went
-returns-in-Quit-clause-went g c =
+pub returns-in-Quit-clause-carried_out : goal.returns-in-Quit-clause-carried_out
+returns-in-Quit-clause-carried_out g c =
     let n = c.in-Quit.ensures.next in
     went_quit c.args.model.now (state_of c.args.session.now) (state_of c.next.new.self) _ _ _ _ n.0 n.1 n.2
 

@@ -1,7 +1,7 @@
 use Rattle.std.proofs.Common.{◌≡◌, ◌≤◌, [], ◌-◌}
-use Rattle.txs_drive.specs.Going.{IsReady, HasNoFeed}
-use Rattle.txs_drive.specs.Ready.{state_of, IsTied}
-use Rattle.txs_drive.specs.Stopping.{Tracks, ends_in}
+use Rattle.txs_drive.specs.inner.CarriedOut.{IsReady, HasNoFeed}
+use Rattle.txs_drive.specs.inner.Ready.{state_of, IsTied}
+use Rattle.txs_drive.specs.inner.Stopped.{Tracks, ends_in}
 use Rattle.txs_drive.proofs.Talking.{Talked}
 use Rattle.txs_drive.proofs.feed.converse.Given as goal
 

@@ -1,14 +1,14 @@
 use Rattle.std.proofs.Common.{◌∷◌, ◌++◌, [], List, ℕ, false, refl, subst, sym}
-use Rattle.txs_drive.specs.Ready.{state_of}
-use Rattle.txs_drive.specs.Going.{Took}
+use Rattle.txs_drive.specs.inner.Ready.{state_of}
+use Rattle.txs_drive.specs.inner.CarriedOut.{LinesCarriedOut}
 use Rattle.txs_drive.proofs.Feeding.{took_part}
 use Rattle.txs_drive.specs.declared.driver.Stop.TheVariants.{NoMemory}
 use Rattle.txs_drive.proofs.Stops.{if_err, stopped_in_part}
 use Rattle.txs_drive.proofs.feed.take_byte.Goals as goal
 
-pub returns-in_ok-push-clause-took : goal.returns-in_ok-push-clause-took
-returns-in_ok-push-clause-took g c =
-    subst (λ (r : List ℕ). Took c.args.model.now (state_of c.args.session.now) (state_of c.args.session.now) (g.K.Sink.taken c.args.sink.now) (g.K.Sink.taken c.args.sink.now) (g.U.Sut.calls c.args.sut.now) (g.U.Sut.calls c.args.sut.now)
+pub returns-in_ok-push-clause-carried_out : goal.returns-in_ok-push-clause-carried_out
+returns-in_ok-push-clause-carried_out g c =
+    subst (λ (r : List ℕ). LinesCarriedOut c.args.model.now (state_of c.args.session.now) (state_of c.args.session.now) (g.K.Sink.taken c.args.sink.now) (g.K.Sink.taken c.args.sink.now) (g.U.Sut.calls c.args.sut.now) (g.U.Sut.calls c.args.sut.now)
     (g.U.Sut.hang_ups c.args.sut.now) (g.U.Sut.hang_ups c.args.sut.now) (g.U.Sut.faults c.args.sut.now) (g.U.Sut.faults c.args.sut.now) (c.args.pending.now ++ c.args.byte ∷ []) r false)
     (sym c.in_ok-push.ensures.ok)
     (took_part c.args.model.now (state_of c.args.session.now) (g.K.Sink.taken c.args.sink.now) (g.U.Sut.calls c.args.sut.now) (g.U.Sut.hang_ups c.args.sut.now) (g.U.Sut.faults c.args.sut.now) (c.args.pending.now ++ c.args.byte ∷ []))

@@ -1,5 +1,5 @@
 use Rattle.std.proofs.Common.{◌≡◌, length}
-use Rattle.txs_drive.specs.Pieces.{word_at}
+use Rattle.txs_drive.specs.inner.FileWords.{word_at}
 use Rattle.txs_drive.proofs.form.word_at.Given as goal
 
 abbrev pub invariant-loop-rest : goal.invariant-loop-rest

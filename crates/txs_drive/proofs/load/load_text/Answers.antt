@@ -2,8 +2,8 @@ use Rattle.std.proofs.Common.{◌≡◌, List, ℕ, sym, subst, ap, ◌∙◌}
 use Rattle.std.specs.List.{AllByRecursion}
 use Rattle.std.specs.Str.{IsUtf8}
 use Rattle.txs_drive.specs.Form.{words_of}
-use Rattle.txs_drive.specs.Pieces.{parts_of, words_read}
-use Rattle.txs_drive.specs.Reading.{Reads}
+use Rattle.txs_drive.specs.inner.FileWords.{parts_of, words_read}
+use Rattle.txs_drive.specs.inner.Parsing.{Reads}
 use Rattle.txs_drive.proofs.Files.{ok-file, only-file, plain-file, later-file}
 use Rattle.txs_drive.proofs.Texts.{words-texts}
 use Rattle.txs_drive.proofs.load.load_text.Goals as goal

@@ -1,5 +1,5 @@
 use Rattle.std.proofs.Common.{◌≡◌, drop, map}
-use Rattle.txs_drive.specs.Reading.{is_listed}
+use Rattle.txs_drive.specs.inner.Parsing.{is_listed}
 use Rattle.txs_drive.proofs.names.is_listed.Given as goal
 
 abbrev pub invariant-loop-listed : goal.invariant-loop-listed

@@ -1,5 +1,6 @@
 use Rattle.std.proofs.Common.{ap, sym, ◌∙◌}
-use Rattle.txs_drive.proofs.Digits.{parse-number, parsed, digits-utf8}
+use Rattle.txs_drive.proofs.Digits.{parse-number, digits-utf8}
+use Rattle.txs_values.proofs.Digits.{parsed}
 use Rattle.txs_drive.proofs.numbers.number_of.Goals as goal
 
 pub unreachable-requires : goal.unreachable-requires

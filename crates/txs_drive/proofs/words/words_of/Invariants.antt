@@ -1,6 +1,6 @@
 use Rattle.std.proofs.Common.{◌≡◌, ◌++◌, drop}
 use Rattle.txs_drive.specs.Form.{words_of}
-use Rattle.txs_drive.specs.Reading.{HasNoGap}
+use Rattle.txs_drive.specs.inner.Parsing.{HasNoGap}
 use Rattle.txs_drive.proofs.words.words_of.Given as goal
 
 -- the words so far, and those of the word under way with the rest

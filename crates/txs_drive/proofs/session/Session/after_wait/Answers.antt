@@ -1,7 +1,7 @@
 use Rattle.std.proofs.Common.{FitsSigned, rules}
 use Rattle.std.specs.Int.{w128}
 use Rattle.std.proofs.lemmas.Int.{to_z-of_z}
-use Rattle.txs_drive.specs.Ready.{state_of}
+use Rattle.txs_drive.specs.inner.Ready.{state_of}
 use Rattle.txs_drive.proofs.Sessions.{heeds_number, heeds_quiet}
 use Rattle.txs_drive.proofs.session.Session.after_wait.Goals as goal
 

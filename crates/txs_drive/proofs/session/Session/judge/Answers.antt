@@ -6,7 +6,7 @@ use Rattle.txs_drive.specs.declared.note.Note.{Note}
 use Rattle.txs_drive.specs.declared.note.Note.TheVariants.{Ended}
 use Rattle.txs_drive.specs.declared.note.Ending.TheVariants.{Fail}
 use Rattle.txs_drive.specs.Session.{State, goes_on, over_run, seen_run, seen_note}
-use Rattle.txs_drive.specs.Ready.{state_of, ToldBy, next_number}
+use Rattle.txs_drive.specs.inner.Ready.{state_of, ToldBy, next_number}
 use Rattle.txs_drive.proofs.Sessions.{fails, keeps}
 use Rattle.txs_drive.proofs.session.Session.judge.Goals as goal
 

@@ -5,7 +5,7 @@ use Rattle.txs_drive.specs.declared.command.Command.{Command}
 use Rattle.txs_drive.specs.declared.command.Command.TheVariants.{Stimulate}
 use Rattle.txs_drive.specs.Commands.{command_of}
 use Rattle.txs_drive.specs.Session.{Carries}
-use Rattle.txs_drive.specs.Ready.{state_of}
+use Rattle.txs_drive.specs.inner.Ready.{state_of}
 use Rattle.txs_drive.proofs.session.Session.line.Goals as goal
 
 pub returns-in_ok-try_send-in-Stimulate-clause-carries : goal.returns-in_ok-try_send-in-Stimulate-clause-carries

@@ -4,7 +4,7 @@ use Rattle.std.proofs.lemmas.Grind.{common_steps}
 use Rattle.std.proofs.lemmas.Int.{to_z-of_z}
 use Rattle.txs_drive.specs.declared.doing.Doing.{Doing}
 use Rattle.txs_drive.specs.Session.{does}
-use Rattle.txs_drive.specs.Ready.{state_of}
+use Rattle.txs_drive.specs.inner.Ready.{state_of}
 use Rattle.txs_drive.proofs.Sessions.{refuses, stimulates}
 use Rattle.txs_drive.proofs.session.Session.try_send.Goals as goal
 

@@ -1,7 +1,7 @@
 use Rattle.std.proofs.Common.{◌≡◌, length, reverse}
 use Rattle.txs_values.specs.Spelling.{past_blanks}
 use Rattle.txs_drive.specs.Parts.{stripped}
-use Rattle.txs_drive.proofs.pieces.strip.Given as goal
+use Rattle.txs_drive.proofs.cuts.strip.Given as goal
 
 abbrev pub invariant-loop-rest : goal.invariant-loop-rest
 invariant-loop-rest l = reverse (past_blanks (reverse l.rest)) ≡ stripped l.bytes

@@ -2,15 +2,15 @@ ghost use Rattle.std.specs.Prelude.{◌≡◌, cond, eqb};
 ghost use Rattle.txs_outside.specs.Calls.{heard_of, IsWithin};
 ghost use Rattle.txs_drive.specs.Parts.{cut_at};
 ghost use Rattle.txs_drive.specs.Session as reference;
-ghost use Rattle.txs_drive.specs.Session.{number_in, number_sign};
+ghost use Rattle.txs_drive.specs.Session.{number_in, number_answer};
 
 use crate::command::spelled;
-use crate::pieces::cut;
+use crate::cuts::cut;
 use txs_outside::Told;
 
 /// What an answer of the system says.
-#[derive(Clone, Copy, Debug, PartialEq, Eq)]
-pub enum Sign {
+#[derive(Clone, Copy)]
+pub enum Answer {
     /// An action on the output channel.
     Number(i128),
     Quiet,
@@ -36,38 +36,38 @@ fn number_in(bytes: &[u8]) -> Option<i128>
     }
 }
 
-fn sign_of_number(number: Option<i128>) -> Sign
-    ensures { result ≡ number_sign number }
+fn answer_of_number(number: Option<i128>) -> Answer
+    ensures { result ≡ number_answer number }
 {
     match number {
-        None => Sign::Later,
-        Some(value) => Sign::Number(value),
+        None => Answer::Later,
+        Some(value) => Answer::Number(value),
     }
 }
 
-fn sign_of_piece(end: u32, bytes: &[u8]) -> Sign
-    ensures { result ≡ cond (eqb end 0) (number_sign (number_in (cut_at 10 bytes.now))) Sign.Later }
+fn answer_of_piece(end: u32, bytes: &[u8]) -> Answer
+    ensures { result ≡ cond (eqb end 0) (number_answer (number_in (cut_at 10 bytes.now))) Answer.Later }
 {
     if end == 0 {
-        sign_of_number(number_in(bytes))
+        answer_of_number(number_in(bytes))
     } else {
-        Sign::Later
+        Answer::Later
     }
 }
 
 /// What an answer says, with the buffer that it left.
-pub(crate) fn sign_of(told: Told, buf: &[u8]) -> Sign
+pub(crate) fn answer_of(told: Told, buf: &[u8]) -> Answer
     requires { IsWithin told buf.now }
-    ensures { result ≡ reference.sign_of (heard_of told buf.now) }
+    ensures { result ≡ reference.answer_of (heard_of told buf.now) }
 {
     match told {
         Told::Piece { end, len } => {
             let (bytes, _) = buf.split_at(len);
-            sign_of_piece(end, bytes)
+            answer_of_piece(end, bytes)
         }
-        Told::Nothing => Sign::Later,
-        Told::Quiet => Sign::Quiet,
-        Told::Ended { .. } => Sign::Later,
-        Told::Failed => Sign::Breaks,
+        Told::Nothing => Answer::Later,
+        Told::Quiet => Answer::Quiet,
+        Told::Ended { .. } => Answer::Later,
+        Told::Failed => Answer::Breaks,
     }
 }

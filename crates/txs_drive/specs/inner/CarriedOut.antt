@@ -12,14 +12,14 @@ use Rattle.txs_drive.specs.declared.feed.Finish.TheVariants as finish
 use Rattle.txs_drive.specs.declared.feed.Read.{Read}
 use Rattle.txs_drive.specs.declared.feed.Read.TheVariants as read
 use Rattle.txs_drive.specs.declared.model.Model.{Model}
-use Rattle.txs_drive.specs.Served.{Ending, end, last_part, command_lines, Gave, Rests, by_fail, status_of}
+use Rattle.txs_drive.specs.Served.{Ending, end, last_part, command_lines, Gave, EndsAtRest, by_fail, status_of}
 use Rattle.txs_outside.specs.declared.sut.Heard.{Heard}
 use Rattle.txs_outside.specs.declared.sut.Heard.TheVariants.{Failed}
 use Rattle.txs_outside.specs.declared.sut.SutCall.TheVariants as call
-use Rattle.txs_drive.specs.declared.sign.Sign.{Sign}
+use Rattle.txs_drive.specs.declared.answer.Answer.{Answer}
 use Rattle.txs_drive.specs.declared.session.Session as rust
-use Rattle.txs_drive.specs.Session.{State, first, dialled_of, sign_of}
-use Rattle.txs_drive.specs.Ready.{IsBusy, IsTied, IsPlainRun, Keeps, state_of, rank}
+use Rattle.txs_drive.specs.Session.{State, at_start, dialled_of, answer_of}
+use Rattle.txs_drive.specs.inner.Ready.{IsBusy, IsTied, IsPlainRun, Keeps, state_of, rank}
 use Rattle.txs_drive.specs.Course.{Event, entry, does', Leads, lines_in, notes_in, text_of, has_quit, hung_after, calls_in, AnyFailed}
 
 -- the last event, and no other, is that the session ends
@@ -27,7 +27,7 @@ abbrev pub IsLeft : List Event → Type 0
 IsLeft es = (before : List Event) × (es ≡ before ++ does' Quit ∷ []) × (has_quit before ≡ false)
 
 -- these events led from s to t, the lines were read, and the sink and the system had what comes of them; where q, the session ended
-pub record Went (m : Model) (s t : State) (k0 k1 : Option (List ℕ)) (u0 u1 : Option (List SutEntry)) (h0 h1 : Option ℕ) (f0 f1 : ℕ) (lines : List (List ℕ)) (q : Bool) : Type 0 where
+pub record CarriedOut (m : Model) (s t : State) (k0 k1 : Option (List ℕ)) (u0 u1 : Option (List SutEntry)) (h0 h1 : Option ℕ) (f0 f1 : ℕ) (lines : List (List ℕ)) (q : Bool) : Type 0 where
   pub events : List Event
   pub leads : Leads m s events t
   pub read : lines_in events ≡ lines
@@ -41,7 +41,7 @@ pub record Went (m : Model) (s t : State) (k0 k1 : Option (List ℕ)) (u0 u1 : O
   pub stays : q ≡ false → has_quit events ≡ false
 
 -- a call of the system, and how it was answered
-pub record Called (m : Model) (s t : State) (u0 u1 : Option (List SutEntry)) (h0 h1 : Option ℕ) (f0 f1 : ℕ) : Type 0 where
+pub record CallAnswered (m : Model) (s t : State) (u0 u1 : Option (List SutEntry)) (h0 h1 : Option ℕ) (f0 f1 : ℕ) : Type 0 where
   pub event : Event
   pub leads : Leads m s (event ∷ []) t
   pub read : lines_in (event ∷ []) ≡ []
@@ -54,10 +54,10 @@ pub record Called (m : Model) (s t : State) (u0 u1 : Option (List SutEntry)) (h0
   pub calm : (AnyFailed (event ∷ []) → ⊥) → f1 ≡ f0
 
 -- a wait, and what its answer says
-pub record Waited (u0 u1 : Option (List SutEntry)) (h0 : Option ℕ) (f0 f1 : ℕ) (sign : Sign) : Type 0 where
+pub record WaitAnswered (u0 u1 : Option (List SutEntry)) (h0 : Option ℕ) (f0 f1 : ℕ) (answer : Answer) : Type 0 where
   pub heard : Heard
   pub called : Adds u0 u1 (entry h0 (call.Wait 4096 heard) ∷ [])
-  pub says : sign ≡ sign_of heard
+  pub says : answer ≡ answer_of heard
   pub later : f0 ≤ f1
   pub caused : heard ≡ Failed → Rose f0 f1
   pub calm : heard ≢ Failed → f1 ≡ f0
@@ -78,11 +78,11 @@ joined [] = []
 joined (line ∷ lines) = line ++ 10 ∷ joined lines
 
 -- of these bytes some lines were read, and the rest is left
-pub record Took (m : Model) (s t : State) (k0 k1 : Option (List ℕ)) (u0 u1 : Option (List SutEntry)) (h0 h1 : Option ℕ) (f0 f1 : ℕ) (bytes rest : List ℕ) (q : Bool) : Type 0 where
+pub record LinesCarriedOut (m : Model) (s t : State) (k0 k1 : Option (List ℕ)) (u0 u1 : Option (List SutEntry)) (h0 h1 : Option ℕ) (f0 f1 : ℕ) (bytes rest : List ℕ) (q : Bool) : Type 0 where
   pub lines : List (List ℕ)
   pub split : bytes ≡ joined lines ++ rest
   pub each : AllByRecursion HasNoFeed lines
-  pub went : Went m s t k0 k1 u0 u1 h0 h1 f0 f1 lines q
+  pub went : CarriedOut m s t k0 k1 u0 u1 h0 h1 f0 f1 lines q
 
 -- whether the session ended
 abbrev pub has_left : Next → Bool
@@ -96,20 +96,20 @@ IsAhead next.GoesOn s t = IsBusy t.run t.todo × (rank t.todo < rank s.todo)
 IsAhead next.Idle s t = (t.todo ≡ []) × IsTied t.run
 IsAhead next.Quit s t = t.todo ≡ []
 
--- as Took, where the rest is what is pending unless the session ended
-abbrev pub TookSome : Model → State → State → Option (List ℕ) → Option (List ℕ) → Option (List SutEntry) → Option (List SutEntry) → Option ℕ → Option ℕ → ℕ → ℕ → List ℕ → List ℕ → Bool → Type 0
-TookSome m s t k0 k1 u0 u1 h0 h1 f0 f1 bytes pending q =
-    (rest : List ℕ) × Took m s t k0 k1 u0 u1 h0 h1 f0 f1 bytes rest q × (q ≡ false → rest ≡ pending)
+-- as LinesCarriedOut, where the rest is what is pending unless the session ended
+abbrev pub BytesCarriedOut : Model → State → State → Option (List ℕ) → Option (List ℕ) → Option (List SutEntry) → Option (List SutEntry) → Option ℕ → Option ℕ → ℕ → ℕ → List ℕ → List ℕ → Bool → Type 0
+BytesCarriedOut m s t k0 k1 u0 u1 h0 h1 f0 f1 bytes pending q =
+    (rest : List ℕ) × LinesCarriedOut m s t k0 k1 u0 u1 h0 h1 f0 f1 bytes rest q × (q ≡ false → rest ≡ pending)
 
 -- the bytes of a read
 abbrev pub read_bytes : Read → List ℕ
-read_bytes (read.Piece bytes) = bytes
+read_bytes (read.Bytes bytes) = bytes
 read_bytes read.End = []
 read_bytes read.Failed = []
 
--- a piece has a byte, and fits the room
+-- some bytes, which fit the room
 abbrev pub IsRead : ℕ → Read → Type 0
-IsRead room (read.Piece bytes) = (0 < length bytes) × (length bytes ≤ room)
+IsRead room (read.Bytes bytes) = (0 < length bytes) × (length bytes ≤ room)
 IsRead room read.End = Unit {0}
 IsRead room read.Failed = Unit {0}
 
@@ -121,9 +121,9 @@ has_quit_at finish.Failed = false
 has_quit_at finish.TooLong = false
 
 -- the last line was carried out, where it has bytes
-abbrev pub Ended : Model → State → State → Option (List ℕ) → Option (List ℕ) → Option (List SutEntry) → Option (List SutEntry) → Option ℕ → Option ℕ → ℕ → ℕ → List ℕ → Finish → Type 0
-Ended m s t k0 k1 u0 u1 h0 h1 f0 f1 line f =
-    Went m s t k0 k1 u0 u1 h0 h1 f0 f1 (last_part end line) (has_quit_at f) × IsAtEnd f
+abbrev pub LastLineCarriedOut : Model → State → State → Option (List ℕ) → Option (List ℕ) → Option (List SutEntry) → Option (List SutEntry) → Option ℕ → Option ℕ → ℕ → ℕ → List ℕ → Finish → Type 0
+LastLineCarriedOut m s t k0 k1 u0 u1 h0 h1 f0 f1 line f =
+    CarriedOut m s t k0 k1 u0 u1 h0 h1 f0 f1 (last_part end line) (has_quit_at f) × IsAtEnd f
   where
     IsAtEnd : Finish → Type 0
     IsAtEnd finish.Quit = Unit {0}
@@ -139,7 +139,7 @@ code_of finish.Failed failed = 3
 code_of finish.TooLong failed = 6
 
 -- the commands of a source were carried out up to their end
-pub record Conversed (m : Model) (f : Finish) (t : State) (g0 g1 l0 l1 : Option (List ℕ)) (at_end : Bool) (k0 k1 : Option (List ℕ)) (u0 u1 : Option (List SutEntry)) (h0 h1 : Option ℕ) (f0 f1 : ℕ) : Type 0 where
+pub record CommandsCarriedOut (m : Model) (f : Finish) (t : State) (g0 g1 l0 l1 : Option (List ℕ)) (at_end : Bool) (k0 k1 : Option (List ℕ)) (u0 u1 : Option (List SutEntry)) (h0 h1 : Option ℕ) (f0 f1 : ℕ) : Type 0 where
   pub given : List ℕ
   pub commands : List ℕ
   pub ending : Ending
@@ -150,9 +150,9 @@ pub record Conversed (m : Model) (f : Finish) (t : State) (g0 g1 l0 l1 : Option 
   pub lost : Loses l0 l1 given
   pub split : Gave ending given commands
   pub ended : ending ≡ end → (at_end ≡ true) × Tells l0 given
-  pub leads : Leads m first events t
+  pub leads : Leads m at_start events t
   pub lines : command_lines commands ending ≡ lines_in events ++ behind
-  pub rests : Rests quits t behind events
+  pub rests : EndsAtRest quits t behind events
   pub text : Grows k0 k1 (text_of m (notes_in events))
   pub calls : Adds u0 u1 (calls_in m events h0)
   pub hung : h1 ≡ hung_after events h0

@@ -16,7 +16,7 @@ use Rattle.txs_drive.specs.Session.{Run, State, done, Judges, Heeds}
 use Rattle.txs_drive.specs.declared.note.Seen.{Seen}
 use Rattle.txs_drive.specs.declared.note.Seen.TheVariants as seen
 use Rattle.txs_terms.specs.declared.term.Term as rust_term
-use Rattle.txs_drive.specs.declared.sign.Sign.{Sign}
+use Rattle.txs_drive.specs.declared.answer.Answer.{Answer}
 use Rattle.txs_drive.specs.Course.{asks_nothing}
 
 abbrev pub run_of : rust_run.Run → Run
@@ -131,7 +131,7 @@ abbrev pub Judged : Model → Seen → Option Run → State → State → Type 0
 Judged m x None s t = ⊥
 Judged m x (Some r) s t = Judges m x r s t
 
-abbrev pub HeedsBy : Model → Sign → Option Run → State → State → Type 0
+abbrev pub HeedsBy : Model → Answer → Option Run → State → State → Type 0
 HeedsBy m x None s t = ⊥
 HeedsBy m x (Some r) s t = Heeds m x r s t
 

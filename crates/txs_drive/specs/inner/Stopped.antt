@@ -8,12 +8,12 @@ use Rattle.txs_drive.specs.declared.driver.Stop.{Stop}
 use Rattle.txs_drive.specs.declared.driver.Stop.TheVariants as stop
 use Rattle.txs_drive.specs.declared.model.Model.{Model}
 use Rattle.txs_drive.specs.declared.session.Session as rust
-use Rattle.txs_drive.specs.Session.{State, first, dialled_of}
-use Rattle.txs_drive.specs.Ready.{state_of}
+use Rattle.txs_drive.specs.Session.{State, at_start, dialled_of}
+use Rattle.txs_drive.specs.inner.Ready.{state_of}
 use Rattle.txs_drive.specs.Course.{Event, Leads, lines_in, notes_in, text_of, has_quit, hung_after, calls_in, due_in, AnyFailed}
 use Rattle.txs_drive.specs.Served.{Ending, open', end, command_lines, byte_limit}
 use Rattle.txs_drive.specs.Cut.{IsTornNote, IsUnheeded, dialled_by}
-use Rattle.txs_drive.specs.Going.{HasNoFeed, joined}
+use Rattle.txs_drive.specs.inner.CarriedOut.{HasNoFeed, joined}
 
 -- what was taken behind the whole lines; where memory ran out, each action that was sent stands there
 abbrev pub IsRest : Stop → Model → State → List ℕ → Type 0
@@ -40,7 +40,7 @@ pub record Stopped (stop : Stop) (m : Model) (s : State) (n : ℕ) (k0 k1 : Opti
   pub ends : n ≡ dialled_by unheeded (dialled_of final.run)
 
 -- as Stopped, in the midst of these bytes
-pub record StoppedIn (stop : Stop) (m : Model) (s : State) (n : ℕ) (k0 k1 : Option (List ℕ)) (u0 u1 : Option (List SutEntry)) (h0 h1 : Option ℕ) (f0 f1 : ℕ) (bytes : List ℕ) : Type 0 where
+pub record StoppedInBytes (stop : Stop) (m : Model) (s : State) (n : ℕ) (k0 k1 : Option (List ℕ)) (u0 u1 : Option (List SutEntry)) (h0 h1 : Option ℕ) (f0 f1 : ℕ) (bytes : List ℕ) : Type 0 where
   pub lines : List (List ℕ)
   pub rest : List ℕ
   pub split : bytes ≡ joined lines ++ rest
@@ -48,7 +48,7 @@ pub record StoppedIn (stop : Stop) (m : Model) (s : State) (n : ℕ) (k0 k1 : Op
   pub stopped : Stopped stop m s n k0 k1 u0 u1 h0 h1 f0 f1 lines
 
 -- the commands of a source were carried out up to some place
-pub record Broke (stop : Stop) (m : Model) (n : ℕ) (g0 g1 l0 l1 : Option (List ℕ)) (at_end : Bool) (k0 k1 : Option (List ℕ)) (u0 u1 : Option (List SutEntry)) (h0 h1 : Option ℕ) (f0 f1 : ℕ) : Type 0 where
+pub record StoppedInCommands (stop : Stop) (m : Model) (n : ℕ) (g0 g1 l0 l1 : Option (List ℕ)) (at_end : Bool) (k0 k1 : Option (List ℕ)) (u0 u1 : Option (List SutEntry)) (h0 h1 : Option ℕ) (f0 f1 : ℕ) : Type 0 where
   pub given : List ℕ
   pub commands : List ℕ
   pub unread : List ℕ
@@ -62,7 +62,7 @@ pub record Broke (stop : Stop) (m : Model) (n : ℕ) (g0 g1 l0 l1 : Option (List
   pub most : length given ≤ byte_limit + 1
   pub ended : (ending ≡ open') ⊎ ((ending ≡ end) × (at_end ≡ true) × (unread ≡ []) × Tells l0 given)
   pub read : command_lines commands ending ≡ lines ++ behind
-  pub stopped : Stopped stop m first n k0 k1 u0 u1 h0 h1 f0 f1 lines
+  pub stopped : Stopped stop m at_start n k0 k1 u0 u1 h0 h1 f0 f1 lines
 
 -- how many ends a session has dialled
 abbrev pub ends_in : rust.Session → ℕ
