@@ -1,14 +1,10 @@
 -- Names and numerals are ASCII, and what parsing gives of numerals.
-use Rattle.std.proofs.Common.{◌≡◌, ℕ, ℤ, pos, ◌<◌, ◌^◌, Bool, true, false, cond, nat_lt, List, [], ◌∷◌, length, Option, Some, None, Result, Ok, Err, refl, sym, ◌∙◌, ap, arith}
-use Rattle.std.proofs.lemmas.Bool.Decides.{nat_tests, Decides-ltb}
+use Rattle.std.proofs.Common.{◌≡◌, ℕ, ℤ, ◌<◌, List, [], ◌∷◌, length, Result, arith}
 use Rattle.std.proofs.lemmas.Str.{IsUtf8-from_ascii}
 use Rattle.std.proofs.lemmas.Str.Ascii.{IsAscii-nil, IsAscii-cons}
-use Rattle.std.proofs.lemmas.Str.Parse.{IsNumeralModel, numerals_by_value, tells_digits, parse_signed_digits}
-use Rattle.std.specs.Char.{digit_value}
 use Rattle.std.specs.Int.{w128}
-use Rattle.std.specs.Result.{OkIff}
 use Rattle.std.specs.Str.{IsAscii, IsUtf8}
-use Rattle.std.specs.Str.Parse.{AllDigits, digits_value, ParsesSigned}
+use Rattle.std.specs.Str.Parse.{AllDigits, ParsesSigned}
 use Rattle.txs_values.specs.Spelling.{is_digit, is_name_byte}
 use Rattle.txs_lexer.specs.Tokens.{AreAll, IsNumeral}
 use Rattle.txs_values.proofs.Digits.{name_byte-ascii, digit-ascii, digit-value, ranged, parsed, parse-digits}

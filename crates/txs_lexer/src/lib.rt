@@ -16,5 +16,5 @@ mod token;
 pub mod word;
 
 pub use fault::LexFault;
-pub use text::{lex, one_answer, some_answer};
+pub use text::{lex, named_numbers, one_answer, some_answer};
 pub use token::{Kind, Token, Tokens};

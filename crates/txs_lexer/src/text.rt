@@ -2,6 +2,7 @@ ghost use Rattle.std.specs.Prelude.{◌≡◌, ◌≢◌, ◌↔◌, ◌≤◌, 
 ghost use Rattle.txs_lexer.specs.Lexed.{Answer, IsLexed, AreSlices};
 ghost use Rattle.txs_lexer.specs.Scan.{IsTail, Reads, Steps, Stops};
 ghost use Rattle.txs_lexer.specs.Tokens.{Fails};
+ghost use Rattle.txs_lexer.specs.Words.{words, symbols, named_words, named_symbols, AreNumbers};
 
 use crate::LexFault;
 use crate::byte::past;
@@ -73,4 +74,10 @@ pub fn one_answer()
 /// Each text gives one.
 pub fn some_answer()
     ensures { (bytes : List ℕ) → (answer : Answer) × IsLexed bytes answer }
+{}
+
+/// The constants of `word` and `symbol` are the numbers of what they name.
+pub fn named_numbers()
+    ensures words { AreNumbers named_words words }
+    ensures symbols { AreNumbers named_symbols symbols }
 {}

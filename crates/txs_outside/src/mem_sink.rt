@@ -67,23 +67,3 @@ impl Sink for MemSink {
 
     fn finish(&mut self) {}
 }
-
-#[cfg(test)]
-mod tests {
-    use super::*;
-    use crate::SureSink;
-    use std::test::Fail;
-
-    #[test]
-    fn takes_bytes_and_fails_where_listed(rt: HostRuntime) -> Result<(), Fail> {
-        let mut fails = Vec::new(rt.alloc());
-        fails.push(2)?;
-        let mut sink = MemSink::new(rt.alloc(), 4, Numbers::from_vec(fails))?;
-        assert_eq!(rt; sink.write(b"one "), Ok(4));
-        assert_eq!(rt; sink.write(b"two "), Err(Failed));
-        assert_eq!(rt; sink.write(b"three"), Ok(5));
-        assert_eq!(rt; sink.bytes(), b"one three".as_slice());
-        assert_eq!(rt; SureSink::new().write(b"four"), Ok(4));
-        Ok(())
-    }
-}

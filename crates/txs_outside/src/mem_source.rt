@@ -63,27 +63,3 @@ impl Source for MemSource {
 
     fn finish(&mut self) {}
 }
-
-#[cfg(test)]
-mod tests {
-    use super::*;
-    use std::test::Fail;
-
-    #[test]
-    fn gives_its_bytes_and_fails_where_listed(rt: HostRuntime) -> Result<(), Fail> {
-        let alloc = rt.alloc();
-        let mut fails = Vec::new(alloc);
-        fails.push(2)?;
-        let bytes = Bytes::from_slice(alloc, b"abc")?;
-        let mut source = MemSource::new(bytes, Numbers::from_vec(fails));
-        let mut buf = [0u8; 2];
-        assert_eq!(rt; source.read(&mut buf), Got::Bytes { len: 2 });
-        assert_eq!(rt; buf, *b"ab");
-        assert_eq!(rt; source.read(&mut buf), Got::Failed);
-        assert_eq!(rt; source.read(&mut buf), Got::Bytes { len: 1 });
-        assert_eq!(rt; buf[0], b'c');
-        assert_eq!(rt; source.read(&mut buf), Got::End);
-        assert_eq!(rt; source.read(&mut buf), Got::End);
-        Ok(())
-    }
-}

@@ -97,9 +97,6 @@ mod tests {
         assert_eq!(rt; source.read(&mut buf), Got::Bytes { len: 1 });
         assert_eq!(rt; source.read(&mut buf), Got::Failed);
         assert_eq!(rt; source.read(&mut buf), Got::Bytes { len: 1 });
-        let mut source = ReaderSource::new(b"ab".as_slice());
-        assert_eq!(rt; source.read(&mut buf), Got::Bytes { len: 2 });
-        assert_eq!(rt; source.read(&mut buf), Got::End);
         let mut flaky = Flaky::new();
         let mut sink = WriterSink::new(&mut flaky);
         assert_eq!(rt; sink.write(b"ab"), Ok(1));

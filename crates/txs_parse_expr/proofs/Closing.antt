@@ -4,6 +4,7 @@ use Rattle.std.proofs.lemmas.Bool.{eqb-true}
 use Rattle.txs_lexer.specs.declared.token.Token.{Token}
 use Rattle.txs_lexer.specs.declared.token.Kind.{Kind}
 use Rattle.txs_lexer.specs.declared.token.Kind.TheVariants.{Name, Word, Number, Quoted, Symbol}
+use Rattle.txs_lexer.specs.declared.symbol.TheConstants.{MINUS, OPEN, CLOSE, COMMA, SEMICOLON}
 use Rattle.txs_syntax.specs.declared.ast.Op.{Op}
 use Rattle.txs_syntax.specs.declared.ast.Ast.{Ast}
 use Rattle.txs_syntax.specs.Grammar.{Tokens, Marked, tokens_of, Signs, look_up, sign_of_kind, sign_of, or_signs, and_signs, compare_signs, join_signs, sum_signs, product_signs, IsSymbol, IsWord, Layer, expr, conj, cmp, cat, sum, prod, un, prim, SpellsAt, number, text, name, call_none, call_some, group, choose, bind}
@@ -12,7 +13,7 @@ use Rattle.txs_parse_expr.specs.Reader.{symbol_kind, is_symbol, at_token, kind_b
 -- ---- the tokens that end a layer
 
 abbrev pub ClosesProd : Kind → Type 0
-ClosesProd k = (symbol_kind 36 k ≡ false) × (sign_of_kind product_signs k ≡ None)
+ClosesProd k = (symbol_kind OPEN k ≡ false) × (sign_of_kind product_signs k ≡ None)
 
 abbrev pub ClosesSum : Kind → Type 0
 ClosesSum k = ClosesProd k × (sign_of_kind sum_signs k ≡ None)
@@ -27,8 +28,8 @@ abbrev pub ClosesConj : Kind → Type 0
 ClosesConj k = ClosesCmp k × (sign_of_kind and_signs k ≡ None)
 
 abbrev pub Closes : Layer → Kind → Type 0
-Closes prim k = symbol_kind 36 k ≡ false
-Closes un k = symbol_kind 36 k ≡ false
+Closes prim k = symbol_kind OPEN k ≡ false
+Closes un k = symbol_kind OPEN k ≡ false
 Closes prod k = ClosesProd k
 Closes sum k = ClosesSum k
 Closes cat k = ClosesCat k
@@ -85,14 +86,14 @@ product_closes c o e = sign_closes un product_signs c.kind o (refl, (refl, (refl
 closed_by : (k : Kind) → Closes expr k → (c : Token) (r : Tokens) → c.kind ≡ k → Stops expr (c ∷ r)
 closed_by k h c r e = subst (Closes expr) (sym e) h
 
-pub stops_37 : (c : Token) (r : Tokens) → IsSymbol 37 c → Stops expr (c ∷ r)
-stops_37 c r e = closed_by (Symbol 37) ((((((refl, refl), refl), refl), refl), refl), refl) c r e
+pub stops_close : (c : Token) (r : Tokens) → IsSymbol CLOSE c → Stops expr (c ∷ r)
+stops_close c r e = closed_by (Symbol CLOSE) ((((((refl, refl), refl), refl), refl), refl), refl) c r e
 
-pub stops_42 : (c : Token) (r : Tokens) → IsSymbol 42 c → Stops expr (c ∷ r)
-stops_42 c r e = closed_by (Symbol 42) ((((((refl, refl), refl), refl), refl), refl), refl) c r e
+pub stops_comma : (c : Token) (r : Tokens) → IsSymbol COMMA c → Stops expr (c ∷ r)
+stops_comma c r e = closed_by (Symbol COMMA) ((((((refl, refl), refl), refl), refl), refl), refl) c r e
 
-pub stops_43 : (c : Token) (r : Tokens) → IsSymbol 43 c → Stops expr (c ∷ r)
-stops_43 c r e = closed_by (Symbol 43) ((((((refl, refl), refl), refl), refl), refl), refl) c r e
+pub stops_semicolon : (c : Token) (r : Tokens) → IsSymbol SEMICOLON c → Stops expr (c ∷ r)
+stops_semicolon c r e = closed_by (Symbol SEMICOLON) ((((((refl, refl), refl), refl), refl), refl), refl) c r e
 
 pub stops_word : (w : ℕ) (c : Token) (r : Tokens) → IsWord w c → Stops expr (c ∷ r)
 stops_word w c r e = closed_by (Word w) ((((((refl, refl), refl), refl), refl), refl), refl) c r e
@@ -126,12 +127,12 @@ conj_of_expr [] h = tt
 conj_of_expr (c ∷ r) h = h.0
 
 -- an expression does not begin with a closing parenthesis
-not_close_by : (s : ℕ) → kind_begins (Symbol s) ≡ true → (t : Bool) → eqb s 37 ≡ t → t ≡ false
-not_close_by s h true q = let e : s ≡ 37 = eqb-true s 37 q in let k : kind_begins (Symbol 37) ≡ true = subst (λ n. kind_begins (Symbol n) ≡ true) e h in cc
+not_close_by : (s : ℕ) → kind_begins (Symbol s) ≡ true → (t : Bool) → eqb s CLOSE ≡ t → t ≡ false
+not_close_by s h true q = let e : s ≡ CLOSE = eqb-true s CLOSE q in let k : kind_begins (Symbol CLOSE) ≡ true = subst (λ n. kind_begins (Symbol n) ≡ true) e h in cc
 not_close_by s h false q = refl
 
-pub not_close : (k : Kind) → kind_begins k ≡ true → symbol_kind 37 k ≡ false
-not_close (Symbol s) h = not_close_by s h (eqb s 37) refl
+pub not_close : (k : Kind) → kind_begins k ≡ true → symbol_kind CLOSE k ≡ false
+not_close (Symbol s) h = not_close_by s h (eqb s CLOSE) refl
 not_close (Word w) h = refl
 not_close (Name x) h = refl
 not_close (Number n) h = refl
@@ -139,7 +140,7 @@ not_close (Quoted s) h = refl
 
 -- a single operand does not begin with a minus
 pub not_minus : {B : Type 0} {d : ℕ} {a : Ast} {u : Marked} → SpellsAt prim d a u → (r : Tokens) (go : Token → Tokens → B) (stop : B)
-    → at_token (is_symbol 25) (tokens_of u ++ r) go stop ≡ stop
+    → at_token (is_symbol MINUS) (tokens_of u ++ r) go stop ≡ stop
 not_minus (number c n e) r go stop = rw e refl
 not_minus (text c s e) r go stop = rw e refl
 not_minus (name c x e) r go stop = rw e refl

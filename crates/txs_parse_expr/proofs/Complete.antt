@@ -2,6 +2,8 @@
 use Rattle.std.proofs.Common.{◌≡◌, ℕ, zero, suc, ◌-◌, ◌<◌, ◌≤◌, true, false, ◌⊎◌, inl, inr, List, [], ◌∷◌, ◌++◌, length, Some, None, refl, sym, ap, subst, ◌∙◌, arith, append_assoc, length-append}
 use Rattle.txs_lexer.specs.declared.token.Token.{Token}
 use Rattle.txs_lexer.specs.declared.token.Kind.TheVariants.{Name}
+use Rattle.txs_lexer.specs.declared.symbol.TheConstants.{MINUS, IS, OPEN, CLOSE, COMMA, SEMICOLON}
+use Rattle.txs_lexer.specs.declared.word.TheConstants.{IN, NI, LET, IF, THEN, ELSE, FI}
 use Rattle.txs_syntax.specs.declared.ast.Op.{Op}
 use Rattle.txs_syntax.specs.declared.ast.Ast.{Ast}
 use Rattle.txs_syntax.specs.declared.ast.Ast.TheVariants as tree
@@ -9,7 +11,7 @@ use Rattle.txs_syntax.specs.Grammar.{Tokens, Marked, tokens_of, Signs, sign_of, 
 use Rattle.txs_syntax.specs.Places.{Shallow}
 use Rattle.txs_parse_expr.specs.Reader.{Outcome, ok, deep, after, Reader, is_symbol, is_word, on, expect, on_sign, right, many, where_room, group_at, if_at, let_at, bind_at, prim_at, full_at, readers}
 use Rattle.txs_parse_expr.proofs.Sound.{tokens_append, tokens_more, shallow_append}
-use Rattle.txs_parse_expr.proofs.Closing.{Stops, or_closes, and_closes, compare_closes, join_closes, sum_closes, product_closes, stops_37, stops_42, stops_43, stops_word, no_sign, prod_of_sum, un_of_prod, sum_of_cat, cat_of_cmp, cmp_of_conj, conj_of_expr, not_close, not_minus}
+use Rattle.txs_parse_expr.proofs.Closing.{Stops, or_closes, and_closes, compare_closes, join_closes, sum_closes, product_closes, stops_close, stops_comma, stops_semicolon, stops_word, no_sign, prod_of_sum, un_of_prod, sum_of_cat, cat_of_cmp, cmp_of_conj, conj_of_expr, not_close, not_minus}
 use Rattle.txs_parse_expr.proofs.First.{First, first, first_all, first_below, binds_below}
 
 abbrev pub read : Layer → ℕ → Reader
@@ -33,19 +35,19 @@ read_full prod = refl
 read_full un = refl
 read_full prim = refl
 
-un_minus : (left : ℕ) (c : Token) (ts : Tokens) → IsSymbol 25 c → read un (suc left) (c ∷ ts) ≡ after (read un left ts) (λ a ts2. ok (tree.Negate c.from a) ts2)
+un_minus : (left : ℕ) (c : Token) (ts : Tokens) → IsSymbol MINUS c → read un (suc left) (c ∷ ts) ≡ after (read un left ts) (λ a ts2. ok (tree.Negate c.from a) ts2)
 un_minus left c ts e = rw e refl
 
-prim_group : (left : ℕ) (c : Token) (ts : Tokens) → IsSymbol 36 c → read prim (suc left) (c ∷ ts) ≡ group_at (readers left) c.from ts
+prim_group : (left : ℕ) (c : Token) (ts : Tokens) → IsSymbol OPEN c → read prim (suc left) (c ∷ ts) ≡ group_at (readers left) c.from ts
 prim_group left c ts e = rw e refl
 
-prim_if : (left : ℕ) (c : Token) (ts : Tokens) → IsWord 35 c → read prim (suc left) (c ∷ ts) ≡ if_at (readers left) c.from ts
+prim_if : (left : ℕ) (c : Token) (ts : Tokens) → IsWord IF c → read prim (suc left) (c ∷ ts) ≡ if_at (readers left) c.from ts
 prim_if left c ts e = rw e refl
 
-prim_let : (left : ℕ) (c : Token) (ts : Tokens) → IsWord 34 c → read prim (suc left) (c ∷ ts) ≡ let_at (readers left) c.from ts
+prim_let : (left : ℕ) (c : Token) (ts : Tokens) → IsWord LET c → read prim (suc left) (c ∷ ts) ≡ let_at (readers left) c.from ts
 prim_let left c ts e = rw e refl
 
-bind_value : (left : ℕ) (c i : Token) (x : List ℕ) (ts : Tokens) → c.kind ≡ Name x → IsSymbol 31 i
+bind_value : (left : ℕ) (c i : Token) (x : List ℕ) (ts : Tokens) → c.kind ≡ Name x → IsSymbol IS i
     → bind_at (readers (suc left)) (c ∷ i ∷ ts) ≡ after (read expr (suc left) ts) (λ y ts2. ok (named c x, y) ts2)
 bind_value left c i x ts e f = rw (e, f) refl
 
@@ -264,7 +266,7 @@ module _ (limit : ℕ) where
   name_end left d c x [] e l h = inl (rw e refl, (l, tt))
   name_end left d c x (k ∷ r) e l h = inl (rw (e, h) refl, (l, tt))
 
-  room_end : (left d : ℕ) (c o k : Token) (x : List ℕ) (r : Tokens) → c.kind ≡ Name x → IsSymbol 36 o → IsSymbol 37 k → left ≡ limit - suc d → d < limit
+  room_end : (left d : ℕ) (c o k : Token) (x : List ℕ) (r : Tokens) → c.kind ≡ Name x → IsSymbol OPEN o → IsSymbol CLOSE k → left ≡ limit - suc d → d < limit
       → Ends (read prim (suc left) (c ∷ o ∷ k ∷ r)) (tree.Call (named c x) []) ((d, c) ∷ (d, o) ∷ (suc d, k) ∷ []) r
   room_end zero d c o k x r e f g q l =
       let p : read prim (suc zero) (c ∷ o ∷ k ∷ r) ≡ deep (k ∷ r) = rw (e, f, g) refl in
@@ -288,44 +290,44 @@ module _ (limit : ℕ) where
       → Ends (expect (is_symbol s) (c ∷ r) (ok b)) b ((d, c) ∷ []) r
   symbol_end s d c b r e l = inl (rw e refl, (l, tt))
 
-  some_arguments : {B : Type 0} (d : ℕ) (u : Marked) (r : Tokens) (go : Tokens → B) (stop : B) → First d u → on (is_symbol 37) (tokens_of u ++ r) go stop ≡ stop
+  some_arguments : {B : Type 0} (d : ℕ) (u : Marked) (r : Tokens) (go : Tokens → B) (stop : B) → First d u → on (is_symbol CLOSE) (tokens_of u ++ r) go stop ≡ stop
   some_arguments d u r go stop f =
-      let k : is_symbol 37 f.token ≡ false = not_close f.token.kind f.begins in
-      let q : on (is_symbol 37) (f.token ∷ (tokens_of f.rest ++ r)) go stop ≡ stop = rw k refl in
-      subst (λ w. on (is_symbol 37) (tokens_of w ++ r) go stop ≡ stop) (sym f.is) q
+      let k : is_symbol CLOSE f.token ≡ false = not_close f.token.kind f.begins in
+      let q : on (is_symbol CLOSE) (f.token ∷ (tokens_of f.rest ++ r)) go stop ≡ stop = rw k refl in
+      subst (λ w. on (is_symbol CLOSE) (tokens_of w ++ r) go stop ≡ stop) (sym f.is) q
 
-  complete_call : (left d : ℕ) (c o k : Token) (x : List ℕ) (es : List Ast) (u : Marked) (r : Tokens) → c.kind ≡ Name x → IsSymbol 36 o → IsSymbol 37 k
+  complete_call : (left d : ℕ) (c o k : Token) (x : List ℕ) (es : List Ast) (u : Marked) (r : Tokens) → c.kind ≡ Name x → IsSymbol OPEN o → IsSymbol CLOSE k
       → d < limit → AllAt (suc d) es u
-      → Ends (many (read expr left) 42 (suc (length (tokens_of u ++ (k ∷ r)))) (tokens_of u ++ (k ∷ r))) es u (k ∷ r)
+      → Ends (many (read expr left) COMMA (suc (length (tokens_of u ++ (k ∷ r)))) (tokens_of u ++ (k ∷ r))) es u (k ∷ r)
       → Ends (read prim (suc left) (c ∷ o ∷ (tokens_of (u ++ (suc d, k) ∷ []) ++ r))) (tree.Call (named c x) es) ((d, c) ∷ (d, o) ∷ (u ++ (suc d, k) ∷ [])) r
   complete_call left d c o k x es u r e f g l s all =
       let ts : Tokens = tokens_of (u ++ (suc d, k) ∷ []) ++ r in
       let is : ts ≡ tokens_of u ++ (k ∷ r) = tokens_more u ((suc d, k) ∷ []) r in
-      let body = λ (es : List Ast) (ts1 : Tokens). expect (is_symbol 37) ts1 (λ ts2. ok (tree.Call (named c x) es) ts2) in
-      let some = λ (ts : Tokens). after (many (read expr left) 42 (suc (length ts)) ts) body in
+      let body = λ (es : List Ast) (ts1 : Tokens). expect (is_symbol CLOSE) ts1 (λ ts2. ok (tree.Call (named c x) es) ts2) in
+      let some = λ (ts : Tokens). after (many (read expr left) COMMA (suc (length ts)) ts) body in
       let p : read prim (suc left) (c ∷ o ∷ (tokens_of u ++ (k ∷ r))) ≡ some (tokens_of u ++ (k ∷ r)) =
       rw (e, f) (some_arguments (suc d) u (k ∷ r) (λ ts1. where_room (readers left).is_full (tokens_of u ++ (k ∷ r)) (ok (tree.Call (named c x) []) ts1)) (some (tokens_of u ++ (k ∷ r))) (first_all s)) in
-      let y = ends_after (many (read expr left) 42 (suc (length (tokens_of u ++ (k ∷ r)))) (tokens_of u ++ (k ∷ r))) body es (tree.Call (named c x) es) u ((suc d, k) ∷ []) r
+      let y = ends_after (many (read expr left) COMMA (suc (length (tokens_of u ++ (k ∷ r)))) (tokens_of u ++ (k ∷ r))) body es (tree.Call (named c x) es) u ((suc d, k) ∷ []) r
       all
-      (λ sh. symbol_end 37 (suc d) k (tree.Call (named c x) es) r (rw g refl) (first_below limit (suc d) u (first_all s) sh)) in
+      (λ sh. symbol_end CLOSE (suc d) k (tree.Call (named c x) es) r (rw g refl) (first_below limit (suc d) u (first_all s) sh)) in
       let z = ends_same (read prim (suc left) (c ∷ o ∷ (tokens_of u ++ (k ∷ r)))) (some (tokens_of u ++ (k ∷ r))) (tree.Call (named c x) es) ((d, c) ∷ (d, o) ∷ (u ++ (suc d, k) ∷ [])) r p
       (ends_before (some (tokens_of u ++ (k ∷ r))) (tree.Call (named c x) es) ((d, c) ∷ (d, o) ∷ []) (u ++ (suc d, k) ∷ []) r (l, (l, tt)) y) in
       subst (λ us. Ends (read prim (suc left) (c ∷ o ∷ us)) (tree.Call (named c x) es) ((d, c) ∷ (d, o) ∷ (u ++ (suc d, k) ∷ [])) r) (sym is) z
 
-  complete_let : (left d : ℕ) (l : Token) (bs : List Bind) (e : Ast) (u v : Marked) (i n : Token) (r : Tokens) → IsWord 11 i → IsWord 32 n → BindsAt (suc d) bs u
-      → Ends (many (bind_at (readers left)) 43 (suc (length (tokens_of u ++ (i ∷ (tokens_of (v ++ (suc d, n) ∷ []) ++ r))))) (tokens_of u ++ (i ∷ (tokens_of (v ++ (suc d, n) ∷ []) ++ r)))) bs u (i ∷ (tokens_of (v ++ (suc d, n) ∷ []) ++ r))
+  complete_let : (left d : ℕ) (l : Token) (bs : List Bind) (e : Ast) (u v : Marked) (i n : Token) (r : Tokens) → IsWord IN i → IsWord NI n → BindsAt (suc d) bs u
+      → Ends (many (bind_at (readers left)) SEMICOLON (suc (length (tokens_of u ++ (i ∷ (tokens_of (v ++ (suc d, n) ∷ []) ++ r))))) (tokens_of u ++ (i ∷ (tokens_of (v ++ (suc d, n) ∷ []) ++ r)))) bs u (i ∷ (tokens_of (v ++ (suc d, n) ∷ []) ++ r))
       → Ends (read expr left (tokens_of v ++ (n ∷ r))) e v (n ∷ r)
-      → Ends (after (many (bind_at (readers left)) 43 (suc (length (tokens_of (u ++ (suc d, i) ∷ (v ++ (suc d, n) ∷ [])) ++ r))) (tokens_of (u ++ (suc d, i) ∷ (v ++ (suc d, n) ∷ [])) ++ r))
-      (λ cs ts1. expect (is_word 11) ts1 (λ ts2. after ((readers left).expr ts2) (λ e ts3. expect (is_word 32) ts3 (λ ts4. ok (bound l.from cs e) ts4)))))
+      → Ends (after (many (bind_at (readers left)) SEMICOLON (suc (length (tokens_of (u ++ (suc d, i) ∷ (v ++ (suc d, n) ∷ [])) ++ r))) (tokens_of (u ++ (suc d, i) ∷ (v ++ (suc d, n) ∷ [])) ++ r))
+      (λ cs ts1. expect (is_word IN) ts1 (λ ts2. after ((readers left).expr ts2) (λ e ts3. expect (is_word NI) ts3 (λ ts4. ok (bound l.from cs e) ts4)))))
       (bound l.from bs e) (u ++ (suc d, i) ∷ (v ++ (suc d, n) ∷ [])) r
   complete_let left d l bs e u v i n r g h s all body =
       let w : Marked = v ++ (suc d, n) ∷ [] in
-      ends_then (λ ts. many (bind_at (readers left)) 43 (suc (length ts)) ts) _ bs (bound l.from bs e) u ((suc d, i) ∷ w) r
+      ends_then (λ ts. many (bind_at (readers left)) SEMICOLON (suc (length ts)) ts) _ bs (bound l.from bs e) u ((suc d, i) ∷ w) r
       all
-      (λ sh. word_on 11 (suc d) i (λ ts2. after ((readers left).expr ts2) (λ e ts3. expect (is_word 32) ts3 (λ ts4. ok (bound l.from bs e) ts4))) (bound l.from bs e) w r (rw g refl) (binds_below limit s sh)
-      (ends_then (read expr left) (λ x ts3. expect (is_word 32) ts3 (λ ts4. ok (bound l.from bs x) ts4)) e (bound l.from bs e) v ((suc d, n) ∷ []) r
+      (λ sh. word_on IN (suc d) i (λ ts2. after ((readers left).expr ts2) (λ e ts3. expect (is_word NI) ts3 (λ ts4. ok (bound l.from bs e) ts4))) (bound l.from bs e) w r (rw g refl) (binds_below limit s sh)
+      (ends_then (read expr left) (λ x ts3. expect (is_word NI) ts3 (λ ts4. ok (bound l.from bs x) ts4)) e (bound l.from bs e) v ((suc d, n) ∷ []) r
       body
-      (λ sv. word_end 32 (suc d) n (bound l.from bs e) r (rw h refl) (binds_below limit s sh))))
+      (λ sv. word_end NI (suc d) n (bound l.from bs e) r (rw h refl) (binds_below limit s sh))))
 
   mutual
     pub complete : {layer : Layer} {d : ℕ} {a : Ast} {u : Marked} → SpellsAt layer d a u → (left : ℕ) → left ≡ limit - d
@@ -367,29 +369,29 @@ module _ (limit : ℕ) where
         λ r h. let ts : Tokens = tokens_of (u ++ (suc d, k) ∷ []) ++ r in
         ends_same (read prim (suc left) (o ∷ ts)) (group_at (readers left) o.from ts) (tree.Group o.from a) ((d, o) ∷ (u ++ (suc d, k) ∷ [])) r
         (prim_group left o ts e) (ends_token (group_at (readers left) o.from ts) (tree.Group o.from a) d o (u ++ (suc d, k) ∷ []) r (omega arith)
-        (ends_then (read expr left) (λ x ts1. expect (is_symbol 37) ts1 (λ ts2. ok (tree.Group o.from x) ts2)) a (tree.Group o.from a) u ((suc d, k) ∷ []) r
-        (complete s left (omega arith) (k ∷ r) (stops_37 k r f))
-        (λ sh. symbol_end 37 (suc d) k (tree.Group o.from a) r (rw f refl) (first_below limit (suc d) u (first s) sh))))
+        (ends_then (read expr left) (λ x ts1. expect (is_symbol CLOSE) ts1 (λ ts2. ok (tree.Group o.from x) ts2)) a (tree.Group o.from a) u ((suc d, k) ∷ []) r
+        (complete s left (omega arith) (k ∷ r) (stops_close k r f))
+        (λ sh. symbol_end CLOSE (suc d) k (tree.Group o.from a) r (rw f refl) (first_below limit (suc d) u (first s) sh))))
     complete (choose {d = d} {p = p} {a = a} {b = b} {u = u} {v = v} {w = w} i t l f e g h k x y z) (suc left) q =
         λ r st. let ts : Tokens = tokens_of (u ++ (suc d, t) ∷ (v ++ (suc d, l) ∷ (w ++ (suc d, f) ∷ []))) ++ r in
         ends_same (read prim (suc left) (i ∷ ts)) (if_at (readers left) i.from ts) (tree.If i.from p a b) ((d, i) ∷ (u ++ (suc d, t) ∷ (v ++ (suc d, l) ∷ (w ++ (suc d, f) ∷ [])))) r
         (prim_if left i ts e) (ends_token (if_at (readers left) i.from ts) (tree.If i.from p a b) d i (u ++ (suc d, t) ∷ (v ++ (suc d, l) ∷ (w ++ (suc d, f) ∷ []))) r (omega arith)
         (ends_then (read expr left) _ p (tree.If i.from p a b) u ((suc d, t) ∷ (v ++ (suc d, l) ∷ (w ++ (suc d, f) ∷ []))) r
-        (complete x left (omega arith) (t ∷ (tokens_of (v ++ (suc d, l) ∷ (w ++ (suc d, f) ∷ [])) ++ r)) (stops_word 36 t (tokens_of (v ++ (suc d, l) ∷ (w ++ (suc d, f) ∷ [])) ++ r) g))
-        (λ sh. word_on 36 (suc d) t (λ ts2. after (read expr left ts2) (λ x ts3. expect (is_word 37) ts3 (λ ts4. after (read expr left ts4) (λ j ts5. expect (is_word 38) ts5 (λ ts6. ok (tree.If i.from p x j) ts6))))) (tree.If i.from p a b) (v ++ (suc d, l) ∷ (w ++ (suc d, f) ∷ [])) r (rw g refl) (first_below limit (suc d) u (first x) sh)
+        (complete x left (omega arith) (t ∷ (tokens_of (v ++ (suc d, l) ∷ (w ++ (suc d, f) ∷ [])) ++ r)) (stops_word THEN t (tokens_of (v ++ (suc d, l) ∷ (w ++ (suc d, f) ∷ [])) ++ r) g))
+        (λ sh. word_on THEN (suc d) t (λ ts2. after (read expr left ts2) (λ x ts3. expect (is_word ELSE) ts3 (λ ts4. after (read expr left ts4) (λ j ts5. expect (is_word FI) ts5 (λ ts6. ok (tree.If i.from p x j) ts6))))) (tree.If i.from p a b) (v ++ (suc d, l) ∷ (w ++ (suc d, f) ∷ [])) r (rw g refl) (first_below limit (suc d) u (first x) sh)
         (ends_then (read expr left) _ a (tree.If i.from p a b) v ((suc d, l) ∷ (w ++ (suc d, f) ∷ [])) r
-        (complete y left (omega arith) (l ∷ (tokens_of (w ++ (suc d, f) ∷ []) ++ r)) (stops_word 37 l (tokens_of (w ++ (suc d, f) ∷ []) ++ r) h))
-        (λ sv. word_on 37 (suc d) l (λ ts4. after (read expr left ts4) (λ j ts5. expect (is_word 38) ts5 (λ ts6. ok (tree.If i.from p a j) ts6))) (tree.If i.from p a b) (w ++ (suc d, f) ∷ []) r (rw h refl) (first_below limit (suc d) u (first x) sh)
-        (ends_then (read expr left) (λ j ts5. expect (is_word 38) ts5 (λ ts6. ok (tree.If i.from p a j) ts6)) b (tree.If i.from p a b) w ((suc d, f) ∷ []) r
-        (complete z left (omega arith) (f ∷ r) (stops_word 38 f r k))
-        (λ sw. word_end 38 (suc d) f (tree.If i.from p a b) r (rw k refl) (first_below limit (suc d) u (first x) sh))))))))
+        (complete y left (omega arith) (l ∷ (tokens_of (w ++ (suc d, f) ∷ []) ++ r)) (stops_word ELSE l (tokens_of (w ++ (suc d, f) ∷ []) ++ r) h))
+        (λ sv. word_on ELSE (suc d) l (λ ts4. after (read expr left ts4) (λ j ts5. expect (is_word FI) ts5 (λ ts6. ok (tree.If i.from p a j) ts6))) (tree.If i.from p a b) (w ++ (suc d, f) ∷ []) r (rw h refl) (first_below limit (suc d) u (first x) sh)
+        (ends_then (read expr left) (λ j ts5. expect (is_word FI) ts5 (λ ts6. ok (tree.If i.from p a j) ts6)) b (tree.If i.from p a b) w ((suc d, f) ∷ []) r
+        (complete z left (omega arith) (f ∷ r) (stops_word FI f r k))
+        (λ sw. word_end FI (suc d) f (tree.If i.from p a b) r (rw k refl) (first_below limit (suc d) u (first x) sh))))))))
     complete (bind {d = d} {bs = bs} {e = e} {u = u} {v = v} l i n f g h s t) (suc left) q =
         λ r st. let ts : Tokens = tokens_of (u ++ (suc d, i) ∷ (v ++ (suc d, n) ∷ [])) ++ r in
         ends_same (read prim (suc left) (l ∷ ts)) (let_at (readers left) l.from ts) (bound l.from bs e) ((d, l) ∷ (u ++ (suc d, i) ∷ (v ++ (suc d, n) ∷ []))) r
         (prim_let left l ts f) (ends_token (let_at (readers left) l.from ts) (bound l.from bs e) d l (u ++ (suc d, i) ∷ (v ++ (suc d, n) ∷ [])) r (omega arith)
         (complete_let left d l bs e u v i n r g h s
         (complete_binds s left (omega arith) (suc (length (tokens_of u ++ (i ∷ (tokens_of (v ++ (suc d, n) ∷ []) ++ r))))) (tokens_of (v ++ (suc d, n) ∷ []) ++ r) (omega (arith, length-append (tokens_of u) (i ∷ (tokens_of (v ++ (suc d, n) ∷ []) ++ r)))) i g)
-        (complete t left (omega arith) (n ∷ r) (stops_word 32 n r h))))
+        (complete t left (omega arith) (n ∷ r) (stops_word NI n r h))))
 
     complete_sum : {d k : ℕ} {a : Ast} {u : Marked} → Sums d k a u → (left : ℕ) → suc left ≡ limit - d → (r : Tokens) → Stops prod r → SumEnds (suc left) k a u r
     complete_sum (sum_one {d = d} {a = a} {u = u} s) left q = λ r h. sum_first left d a u r q (complete s (suc left) q r h)
@@ -402,16 +404,16 @@ module _ (limit : ℕ) where
         λ r h. product_next (suc left) k a b o c u v r e (last_product s) (complete_product s left q (c ∷ (tokens_of v ++ r)) (product_closes c o e)) (complete t (limit - suc k) refl r h)
 
     complete_all : {d : ℕ} {es : List Ast} {u : Marked} → AllAt d es u → (left : ℕ) → left ≡ limit - d → (n : ℕ) (r : Tokens) → length (tokens_of u) < n
-        → (k : Token) → IsSymbol 37 k → Ends (many (read expr left) 42 n (tokens_of u ++ (k ∷ r))) es u (k ∷ r)
+        → (k : Token) → IsSymbol CLOSE k → Ends (many (read expr left) COMMA n (tokens_of u ++ (k ∷ r))) es u (k ∷ r)
     complete_all s left q zero r h k g = absurd (omega arith)
     complete_all (last {e = e} {u = u} s) left q (suc n) r h k g =
-        ends_done (read expr left (tokens_of u ++ (k ∷ r))) _ e (e ∷ []) u (k ∷ r) (complete s left q (k ∷ r) (stops_37 k r g)) (rw g refl)
+        ends_done (read expr left (tokens_of u ++ (k ∷ r))) _ e (e ∷ []) u (k ∷ r) (complete s left q (k ∷ r) (stops_close k r g)) (rw g refl)
     complete_all (more {d = d} {e = e} {es = es} {u = u} {v = v} c f s t) left q (suc n) r h k g =
         let j : length (tokens_of v) < n = (let y = ap length (tokens_append u ((d, c) ∷ v)) in omega (arith, length-append (tokens_of u) (c ∷ tokens_of v))) in
         ends_then (read expr left) _ e (e ∷ es) u ((d, c) ∷ v) (k ∷ r)
-        (complete s left q (c ∷ (tokens_of v ++ (k ∷ r))) (stops_42 c (tokens_of v ++ (k ∷ r)) f))
-        (λ sh. symbol_on 42 d c (λ ts2. after (many (read expr left) 42 n ts2) (λ xs ts3. ok (e ∷ xs) ts3)) _ (e ∷ es) v (k ∷ r) (rw f refl) (first_below limit d u (first s) sh)
-        (ends_done (many (read expr left) 42 n (tokens_of v ++ (k ∷ r))) (λ xs ts3. ok (e ∷ xs) ts3) es (e ∷ es) v (k ∷ r) (complete_all t left q n r j k g) refl))
+        (complete s left q (c ∷ (tokens_of v ++ (k ∷ r))) (stops_comma c (tokens_of v ++ (k ∷ r)) f))
+        (λ sh. symbol_on COMMA d c (λ ts2. after (many (read expr left) COMMA n ts2) (λ xs ts3. ok (e ∷ xs) ts3)) _ (e ∷ es) v (k ∷ r) (rw f refl) (first_below limit d u (first s) sh)
+        (ends_done (many (read expr left) COMMA n (tokens_of v ++ (k ∷ r))) (λ xs ts3. ok (e ∷ xs) ts3) es (e ∷ es) v (k ∷ r) (complete_all t left q n r j k g) refl))
 
     complete_bind : {d : ℕ} {b : Bind} {u : Marked} → BindAt d b u → (left : ℕ) → left ≡ limit - d → (r : Tokens) → Stops expr r
         → Ends (bind_at (readers left) (tokens_of u ++ r)) b u r
@@ -424,13 +426,13 @@ module _ (limit : ℕ) where
         (ends_done (read expr (suc left) (tokens_of u ++ r)) (λ y ts2. ok (named c x, y) ts2) e (named c x, e) u r (complete s (suc left) q r h) refl))
 
     complete_binds : {d : ℕ} {bs : List Bind} {u : Marked} → BindsAt d bs u → (left : ℕ) → left ≡ limit - d → (n : ℕ) (r : Tokens) → length (tokens_of u) < n
-        → (k : Token) → IsWord 11 k → Ends (many (bind_at (readers left)) 43 n (tokens_of u ++ (k ∷ r))) bs u (k ∷ r)
+        → (k : Token) → IsWord IN k → Ends (many (bind_at (readers left)) SEMICOLON n (tokens_of u ++ (k ∷ r))) bs u (k ∷ r)
     complete_binds s left q zero r h k g = absurd (omega arith)
     complete_binds (last_bind {b = b} {u = u} s) left q (suc n) r h k g =
-        ends_done (bind_at (readers left) (tokens_of u ++ (k ∷ r))) _ b (b ∷ []) u (k ∷ r) (complete_bind s left q (k ∷ r) (stops_word 11 k r g)) (rw g refl)
+        ends_done (bind_at (readers left) (tokens_of u ++ (k ∷ r))) _ b (b ∷ []) u (k ∷ r) (complete_bind s left q (k ∷ r) (stops_word IN k r g)) (rw g refl)
     complete_binds (more_binds {d = d} {b = b} {bs = bs} {u = u} {v = v} c f s t) left q (suc n) r h k g =
         let j : length (tokens_of v) < n = (let y = ap length (tokens_append u ((d, c) ∷ v)) in omega (arith, length-append (tokens_of u) (c ∷ tokens_of v))) in
         ends_then (bind_at (readers left)) _ b (b ∷ bs) u ((d, c) ∷ v) (k ∷ r)
-        (complete_bind s left q (c ∷ (tokens_of v ++ (k ∷ r))) (stops_43 c (tokens_of v ++ (k ∷ r)) f))
-        (λ sh. symbol_on 43 d c (λ ts2. after (many (bind_at (readers left)) 43 n ts2) (λ xs ts3. ok (b ∷ xs) ts3)) _ (b ∷ bs) v (k ∷ r) (rw f refl) (binds_below limit (last_bind s) sh)
-        (ends_done (many (bind_at (readers left)) 43 n (tokens_of v ++ (k ∷ r))) (λ xs ts3. ok (b ∷ xs) ts3) bs (b ∷ bs) v (k ∷ r) (complete_binds t left q n r j k g) refl))
+        (complete_bind s left q (c ∷ (tokens_of v ++ (k ∷ r))) (stops_semicolon c (tokens_of v ++ (k ∷ r)) f))
+        (λ sh. symbol_on SEMICOLON d c (λ ts2. after (many (bind_at (readers left)) SEMICOLON n ts2) (λ xs ts3. ok (b ∷ xs) ts3)) _ (b ∷ bs) v (k ∷ r) (rw f refl) (binds_below limit (last_bind s) sh)
+        (ends_done (many (bind_at (readers left)) SEMICOLON n (tokens_of v ++ (k ∷ r))) (λ xs ts3. ok (b ∷ xs) ts3) bs (b ∷ bs) v (k ∷ r) (complete_binds t left q n r j k g) refl))

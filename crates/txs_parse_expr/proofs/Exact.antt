@@ -11,7 +11,7 @@ use Rattle.txs_parse_expr.specs.declared.fault.ParseFault.TheVariants.{Unexpecte
 use Rattle.txs_parse_expr.specs.declared.fault.ParseFault.TheVariants as parse
 use Rattle.txs_parse_expr.specs.declared.fault.Stop.{Stop}
 use Rattle.txs_parse_expr.specs.declared.fault.Stop.TheVariants as stop
-use Rattle.txs_parse_expr.specs.Answer.{place, IsAnswer, IsExact}
+use Rattle.txs_parse_expr.specs.Answer.{offset, IsAnswer, IsExact}
 use Rattle.txs_parse_expr.specs.View.{Stopped, fault}
 use Rattle.txs_parse_expr.proofs.Sound.{Fits, Found, tokens_append}
 use Rattle.txs_parse_expr.proofs.Levels.{sound_readers}
@@ -40,11 +40,11 @@ ends_spelled limit d b ts s =
     let m = spelled_at d b ts s in (m.marked, subst (λ v. Ends limit (read expr (limit - d) v) b m.marked []) m.is (at_end limit d b m.marked m.spelled))
 
 -- where nothing that begins with one token more is read
-module _ (limit d : ℕ) (ts u r : Tokens) (whole : ts ≡ u ++ r) (begins : Begins u)
+module _ (limit d : ℕ) (ts u r : Tokens) (split : ts ≡ u ++ r) (begins : Begins u)
     (stuck : (c : Token) (w : Tokens) → Fits (c ∷ w) r → (b : Ast) (v : Marked) → Ends limit (read expr (limit - d) (u ++ (c ∷ w))) b v [] → ⊥) where
   longest : Longest ts u r
   longest = record {
-    whole = whole;
+    split = split;
     begins = begins;
     no_longer = λ c v e b.
         let q : (u ++ c ∷ []) ++ b.1 ≡ u ++ (c ∷ b.1) = append_assoc u (c ∷ []) b.1 in
@@ -63,13 +63,13 @@ module _ (d : ℕ) where
   answered : (ts : Tokens) (o : Outcome Ast) → Found depth_limit reader (SpellsAt expr d) ts o → Answers d ts o
   answered ts (ok a r) x = (
     tokens_of x.used,
-    longest depth_limit d ts (tokens_of x.used) r x.whole (a, [], subst (Spells a) (sym (append-nil (tokens_of x.used))) (spells d a x.used x.spelled))
+    longest depth_limit d ts (tokens_of x.used) r x.split (a, [], subst (Spells a) (sym (append-nil (tokens_of x.used))) (spells d a x.used x.spelled))
         (λ c w f b v e. clash_ok depth_limit (reader (tokens_of x.used ++ (c ∷ w))) a b v c w (x.local (c ∷ w) f) e),
     (x.used, x.spelled, refl, x.shallow),
   )
   answered ts (bad r) x = (
     tokens_of x.used,
-    longest depth_limit d ts (tokens_of x.used) r x.whole (begins_so d x.begins.0 x.used x.begins.1 x.begins.2)
+    longest depth_limit d ts (tokens_of x.used) r x.split (begins_so d x.begins.0 x.used x.begins.1 x.begins.2)
         (λ c w f b v e. clash_bad depth_limit (reader (tokens_of x.used ++ (c ∷ w))) b v (c ∷ w) (x.local (c ∷ w) f) e),
     (λ t s.
         let k : Spells t (tokens_of x.used ++ []) = subst (Spells t) (sym (append-nil (tokens_of x.used))) s in
@@ -81,7 +81,7 @@ module _ (d : ℕ) where
     tokens_of x.used,
     x.rest,
     x.token,
-    x.whole ∙ ap (λ v. tokens_of x.used ++ v) x.next,
+    x.split ∙ ap (λ v. tokens_of x.used ++ v) x.next,
     (x.begins.0, x.used, x.begins.1, x.depth, subst (SpellsAt expr d x.begins.0) (append_assoc x.used ((x.depth, x.token) ∷ []) x.begins.1) x.begins.2, refl, x.shallow, x.many),
     x.next,
   )
@@ -115,7 +115,7 @@ begins_front p q b = (b.0, q ++ b.1, subst (Spells b.0) (append_assoc p q b.1) b
 -- whatever may begin an expression is no longer than the longest run
 covered : (ts p r q s : Tokens) → Longest ts p r → ts ≡ q ++ s → Begins q → (w : Tokens) × (p ≡ q ++ w)
 covered ts p r q s h e b =
-    elim (compared p r q s (sym h.whole ∙ e)) [
+    elim (compared p r q s (sym h.split ∙ e)) [
       | inl x ↦ x
       | inr x ↦
           let k : q ≡ (p ++ x.0 ∷ []) ++ x.2 = x.4 ∙ sym (append_assoc p (x.0 ∷ []) x.2) in
@@ -136,10 +136,10 @@ pub record Same (p q r s : Tokens) : Type 0 where
 
 one_longest : (ts p q r s : Tokens) → Longest ts p r → Longest ts q s → Same p q r s
 one_longest ts p q r s h g =
-    let x = covered ts p r q s h g.whole g.begins in
-    let y = covered ts q s p r g h.whole h.begins in
+    let x = covered ts p r q s h g.split g.begins in
+    let y = covered ts q s p r g h.split h.begins in
     let e : p ≡ q = no_more p q x.0 x.1 (let k = ap length y.1 in omega (arith, length-append p y.0)) in
-    record { run = e; rest = cut p r s (sym h.whole ∙ (g.whole ∙ ap (λ v. v ++ s) (sym e))) }
+    record { run = e; rest = cut p r s (sym h.split ∙ (g.split ∙ ap (λ v. v ++ s) (sym e))) }
 
 -- a run of shallow marks ends before the first that is too deep
 past_shallow : (limit : ℕ) (u more x y : Marked) (k : ℕ) (c : Token) → u ++ more ≡ x ++ (k, c) ∷ y → Shallow limit u → limit ≤ k → length u ≤ length x
@@ -182,7 +182,7 @@ module _ (d : ℕ) where
   stuck_local p c v (deep r) e x w =
       let k : c ∷ v ≡ x.token ∷ x.rest = (let q : r ≡ c ∷ v = cc in sym q ∙ x.next) in
       let t : c ≡ x.token = cc in
-      let f : p ++ (c ∷ v) ≡ tokens_of x.used ++ (c ∷ v) = x.whole ∙ ap (λ y. tokens_of x.used ++ y) (x.next ∙ sym k) in
+      let f : p ++ (c ∷ v) ≡ tokens_of x.used ++ (c ∷ v) = x.split ∙ ap (λ y. tokens_of x.used ++ y) (x.next ∙ sym k) in
       let u : p ≡ tokens_of x.used = front p (tokens_of x.used) (c ∷ v) f in
       rw (u, t) (x.local w)
     where
@@ -263,8 +263,8 @@ module _ (d : ℕ) where
 -- the answer that tells the outcome
 abbrev pub told : ℕ → Tokens → Outcome Ast → Result (Ast × ℕ) ParseFault
 told len ts (ok a r) = Ok (a, length ts - length r)
-told len ts (bad r) = Err (Unexpected (place len r))
-told len ts (deep r) = Err (Deep (place len r))
+told len ts (bad r) = Err (Unexpected (offset len r))
+told len ts (deep r) = Err (Deep (offset len r))
 
 length_drop : (n : ℕ) (ts : Tokens) → n ≤ length ts → n + length (drop n ts) ≡ length ts
 length_drop zero ts h = omega arith
@@ -275,9 +275,9 @@ number_of : (ts p r : Tokens) (from : ℕ) → from ≤ length ts → drop from 
 number_of ts p r from h e = let k = length_drop from ts h in let q = ap length e in omega (arith, length-append p r)
 
 pub is_answer : (ts : Tokens) (from len d : ℕ) (o : Outcome Ast) → from ≤ length ts → Answers d (drop from ts) o → IsAnswer ts from len d (told len ts o)
-is_answer ts from len d (ok a r) h x = (x.0, r, record { longest = x.1; spelled = x.2; number = number_of ts x.0 r from h x.1.whole })
-is_answer ts from len d (bad r) h x = (x.0, r, record { longest = x.1; no_tree = x.2; within = x.3; place = refl })
-is_answer ts from len d (deep r) h x = (x.0, x.1, x.2, record { whole = x.3; deep = x.4; place = ap (place len) x.5 })
+is_answer ts from len d (ok a r) h x = (x.0, r, record { longest = x.1; spelled = x.2; number = number_of ts x.0 r from h x.1.split })
+is_answer ts from len d (bad r) h x = (x.0, r, record { longest = x.1; no_tree = x.2; within = x.3; offset = refl })
+is_answer ts from len d (deep r) h x = (x.0, x.1, x.2, record { split = x.3; deep = x.4; offset = ap (offset len) x.5 })
 
 pub record Outcome_of (ts : Tokens) (from len d : ℕ) (answer : Result (Ast × ℕ) ParseFault) : Type 0 where
   pub outcome : Outcome Ast
@@ -288,17 +288,17 @@ pub outcome_of : (ts : Tokens) (from len d : ℕ) (answer : Result (Ast × ℕ) 
 outcome_of ts from len d (Ok e) h x = record {
   outcome = ok e.0 x.1;
   answers = (x.0, x.2.longest, x.2.spelled);
-  is = (let k : e.1 ≡ length ts - length x.1 = x.2.number ∙ sym (number_of ts x.0 x.1 from h x.2.longest.whole) in ap (λ n. Ok (e.0, n)) k);
+  is = (let k : e.1 ≡ length ts - length x.1 = x.2.number ∙ sym (number_of ts x.0 x.1 from h x.2.longest.split) in ap (λ n. Ok (e.0, n)) k);
 }
 outcome_of ts from len d (Err (Unexpected at)) h x = record {
   outcome = bad x.1;
   answers = (x.0, x.2.longest, x.2.no_tree, x.2.within);
-  is = ap (λ n. Err (Unexpected n)) x.2.place;
+  is = ap (λ n. Err (Unexpected n)) x.2.offset;
 }
 outcome_of ts from len d (Err (Deep at)) h x = record {
   outcome = deep (x.2 ∷ x.1);
-  answers = (x.0, x.1, x.2, x.3.whole, x.3.deep, refl);
-  is = ap (λ n. Err (Deep n)) x.3.place;
+  answers = (x.0, x.1, x.2, x.3.split, x.3.deep, refl);
+  is = ap (λ n. Err (Deep n)) x.3.offset;
 }
 outcome_of ts from len d (Err NoMemory) h x = absurd x
 

@@ -51,7 +51,7 @@ got_moved : (limit e : ℕ) (f : Reader) (a : Ast) (ts : Tokens) (o : Outcome As
 got_moved limit e f a ts (ok b r) q x =
     let p : b ≡ a = cc in
     let k : r ≡ [] = cc in
-    let w : ts ≡ tokens_of x.used ++ [] = subst (λ v. ts ≡ tokens_of x.used ++ v) k x.whole in
+    let w : ts ≡ tokens_of x.used ++ [] = subst (λ v. ts ≡ tokens_of x.used ++ v) k x.split in
     record { marked = x.used; is = sym (w ∙ append-nil (tokens_of x.used)); spelled = subst (λ t. SpellsAt expr e t x.used) p x.spelled }
 got_moved limit e f a ts (bad r) q x = cc
 got_moved limit e f a ts (deep r) q x = cc

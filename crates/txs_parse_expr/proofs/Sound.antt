@@ -31,14 +31,14 @@ shallow_append limit (m ∷ u) v h g = (h.0, shallow_append limit u v h.1 g)
 module _ (limit : ℕ) where
   pub record Got {A : Type 0} (f : Tokens → Outcome A) (S : A → Marked → Type 0) (ts : Tokens) (a : A) (r : Tokens) : Type 0 where
     pub used : Marked
-    pub whole : ts ≡ tokens_of used ++ r
+    pub split : ts ≡ tokens_of used ++ r
     pub spelled : S a used
     pub shallow : Shallow limit used
     pub local : (w : Tokens) → Fits w r → f (tokens_of used ++ w) ≡ ok a w
 
   pub record Failed {A : Type 0} (f : Tokens → Outcome A) (S : A → Marked → Type 0) (ts r : Tokens) : Type 0 where
     pub used : Marked
-    pub whole : ts ≡ tokens_of used ++ r
+    pub split : ts ≡ tokens_of used ++ r
     pub begins : BeginsIn S used
     pub shallow : Shallow limit used
     pub local : (w : Tokens) → Fits w r → f (tokens_of used ++ w) ≡ bad w
@@ -48,7 +48,7 @@ module _ (limit : ℕ) where
     pub depth : ℕ
     pub token : Token
     pub rest : Tokens
-    pub whole : ts ≡ tokens_of used ++ r
+    pub split : ts ≡ tokens_of used ++ r
     pub next : r ≡ token ∷ rest
     pub many : limit ≤ depth
     pub begins : BeginsIn S (used ++ (depth, token) ∷ [])
@@ -66,14 +66,14 @@ module _ (limit : ℕ) where
 
   module _ {A : Type 0} (f : Tokens → Outcome A) (S T : A → Marked → Type 0) (h : (a : A) (u : Marked) → S a u → T a u) where
     found_map : (ts : Tokens) (o : Outcome A) → Found f S ts o → Found f T ts o
-    found_map ts (ok a r) x = record { used = x.used; whole = x.whole; spelled = h a x.used x.spelled; shallow = x.shallow; local = x.local }
-    found_map ts (bad r) x = record { used = x.used; whole = x.whole; begins = (x.begins.0, x.begins.1, h _ _ x.begins.2); shallow = x.shallow; local = x.local }
+    found_map ts (ok a r) x = record { used = x.used; split = x.split; spelled = h a x.used x.spelled; shallow = x.shallow; local = x.local }
+    found_map ts (bad r) x = record { used = x.used; split = x.split; begins = (x.begins.0, x.begins.1, h _ _ x.begins.2); shallow = x.shallow; local = x.local }
     found_map ts (deep r) x = record {
       used = x.used;
       depth = x.depth;
       token = x.token;
       rest = x.rest;
-      whole = x.whole;
+      split = x.split;
       next = x.next;
       many = x.many;
       begins = (x.begins.0, x.begins.1, h _ _ x.begins.2);
@@ -107,43 +107,43 @@ module _ (limit : ℕ) where
     then_found : (ts r : Tokens) (a : A) (o : Outcome B) (x : Got f S ts a r) → Found (g a) (λ b v. T b (x.used ++ v)) r o → Found both T ts o
     then_found ts r a (ok b q) x y = record {
       used = x.used ++ y.used;
-      whole = x.whole ∙ (ap (λ v. tokens_of x.used ++ v) y.whole ∙ sym (tokens_more x.used y.used q));
+      split = x.split ∙ (ap (λ v. tokens_of x.used ++ v) y.split ∙ sym (tokens_more x.used y.used q));
       spelled = y.spelled;
       shallow = shallow_append limit x.used y.used x.shallow y.shallow;
       local = λ w h.
-          both_at ts r a x y.used w (subst (Fits (tokens_of y.used ++ w)) (sym y.whole) (fits_before (tokens_of y.used) q w h)) ∙ y.local w h;
+          both_at ts r a x y.used w (subst (Fits (tokens_of y.used ++ w)) (sym y.split) (fits_before (tokens_of y.used) q w h)) ∙ y.local w h;
     }
     then_found ts r a (bad q) x y = record {
       used = x.used ++ y.used;
-      whole = x.whole ∙ (ap (λ v. tokens_of x.used ++ v) y.whole ∙ sym (tokens_more x.used y.used q));
+      split = x.split ∙ (ap (λ v. tokens_of x.used ++ v) y.split ∙ sym (tokens_more x.used y.used q));
       begins = (y.begins.0, y.begins.1, subst (T y.begins.0) (sym (append_assoc x.used y.used y.begins.1)) y.begins.2);
       shallow = shallow_append limit x.used y.used x.shallow y.shallow;
       local = λ w h.
-          both_at ts r a x y.used w (subst (Fits (tokens_of y.used ++ w)) (sym y.whole) (fits_before (tokens_of y.used) q w h)) ∙ y.local w h;
+          both_at ts r a x y.used w (subst (Fits (tokens_of y.used ++ w)) (sym y.split) (fits_before (tokens_of y.used) q w h)) ∙ y.local w h;
     }
     then_found ts r a (deep q) x y = record {
       used = x.used ++ y.used;
       depth = y.depth;
       token = y.token;
       rest = y.rest;
-      whole = x.whole ∙ (ap (λ v. tokens_of x.used ++ v) y.whole ∙ sym (tokens_more x.used y.used q));
+      split = x.split ∙ (ap (λ v. tokens_of x.used ++ v) y.split ∙ sym (tokens_more x.used y.used q));
       next = y.next;
       many = y.many;
       begins = (y.begins.0, y.begins.1, subst (T y.begins.0) (simp append_assoc) y.begins.2);
       shallow = shallow_append limit x.used y.used x.shallow y.shallow;
       local = λ w.
-          both_at ts r a x y.used (y.token ∷ w) (fits_same (tokens_of y.used) r y.rest y.token (y.whole ∙ ap (λ v. tokens_of y.used ++ v) y.next) w) ∙ y.local w;
+          both_at ts r a x y.used (y.token ∷ w) (fits_same (tokens_of y.used) r y.rest y.token (y.split ∙ ap (λ v. tokens_of y.used ++ v) y.next) w) ∙ y.local w;
     }
 
     pub after_found : (ts : Tokens) (o : Outcome A) → Found f S ts o
         → ((a : A) (u : Marked) (r : Tokens) → ts ≡ tokens_of u ++ r → S a u → Shallow limit u → Found (g a) (λ b v. T b (u ++ v)) r (g a r))
         → ((a : A) (u : Marked) → S a u → BeginsIn T u) → Found both T ts (after o g)
-    after_found ts (ok a r) x second completes = then_found ts r a (g a r) x (second a x.used r x.whole x.spelled x.shallow)
+    after_found ts (ok a r) x second completes = then_found ts r a (g a r) x (second a x.used r x.split x.spelled x.shallow)
     after_found ts (bad r) x second completes =
         let b = completes x.begins.0 (x.used ++ x.begins.1) x.begins.2 in
         record {
           used = x.used;
-          whole = x.whole;
+          split = x.split;
           begins = (b.0, x.begins.1 ++ b.1, subst (T b.0) (append_assoc x.used x.begins.1 b.1) b.2);
           shallow = x.shallow;
           local = λ w h. ap (λ o. after o g) (x.local w h);
@@ -155,7 +155,7 @@ module _ (limit : ℕ) where
           depth = x.depth;
           token = x.token;
           rest = x.rest;
-          whole = x.whole;
+          split = x.split;
           next = x.next;
           many = x.many;
           begins = (b.0, x.begins.1 ++ b.1, subst (T b.0) (append_assoc (x.used ++ (x.depth, x.token) ∷ []) x.begins.1 b.1) b.2);
@@ -172,10 +172,10 @@ module _ (limit : ℕ) where
     sound_within first second completes ts = after_found ts (f ts) (first ts) (λ a u r e s h. second a u s h r) completes
 
   pub sound_ok : {A : Type 0} (a : A) (S : A → Marked → Type 0) → S a [] → Sound (ok a) S
-  sound_ok a S s ts = record { used = []; whole = refl; spelled = s; shallow = tt; local = λ w h. refl }
+  sound_ok a S s ts = record { used = []; split = refl; spelled = s; shallow = tt; local = λ w h. refl }
 
   pub sound_bad : {A : Type 0} (S : A → Marked → Type 0) → BeginsIn S [] → Sound bad S
-  sound_bad S s ts = record { used = []; whole = refl; begins = s; shallow = tt; local = λ w h. refl }
+  sound_bad S s ts = record { used = []; split = refl; begins = s; shallow = tt; local = λ w h. refl }
 
   -- ---- one token taken
 
@@ -183,14 +183,14 @@ module _ (limit : ℕ) where
     taken_found : (ts : Tokens) (o : Outcome A) → Found go (λ a v. S a ((d, c) ∷ v)) ts o → Found f S (c ∷ ts) o
     taken_found ts (ok a r) x = record {
       used = (d, c) ∷ x.used;
-      whole = ap (λ v. c ∷ v) x.whole;
+      split = ap (λ v. c ∷ v) x.split;
       spelled = x.spelled;
       shallow = (l, x.shallow);
       local = λ w h. q (tokens_of x.used ++ w) ∙ x.local w h;
     }
     taken_found ts (bad r) x = record {
       used = (d, c) ∷ x.used;
-      whole = ap (λ v. c ∷ v) x.whole;
+      split = ap (λ v. c ∷ v) x.split;
       begins = x.begins;
       shallow = (l, x.shallow);
       local = λ w h. q (tokens_of x.used ++ w) ∙ x.local w h;
@@ -200,7 +200,7 @@ module _ (limit : ℕ) where
       depth = x.depth;
       token = x.token;
       rest = x.rest;
-      whole = ap (λ v. c ∷ v) x.whole;
+      split = ap (λ v. c ∷ v) x.split;
       next = x.next;
       many = x.many;
       begins = x.begins;
@@ -222,30 +222,30 @@ module _ (limit : ℕ) where
     stop_found : (o : Outcome A) → Found stop S ts o → Found f S ts o
     stop_found (ok a r) x = record {
       used = x.used;
-      whole = x.whole;
+      split = x.split;
       spelled = x.spelled;
       shallow = x.shallow;
-      local = λ w h. q (tokens_of x.used ++ w) (fits_on (tokens_of x.used) r w x.whole h) ∙ x.local w h;
+      local = λ w h. q (tokens_of x.used ++ w) (fits_on (tokens_of x.used) r w x.split h) ∙ x.local w h;
     }
     stop_found (bad r) x = record {
       used = x.used;
-      whole = x.whole;
+      split = x.split;
       begins = x.begins;
       shallow = x.shallow;
-      local = λ w h. q (tokens_of x.used ++ w) (fits_on (tokens_of x.used) r w x.whole h) ∙ x.local w h;
+      local = λ w h. q (tokens_of x.used ++ w) (fits_on (tokens_of x.used) r w x.split h) ∙ x.local w h;
     }
     stop_found (deep r) x = record {
       used = x.used;
       depth = x.depth;
       token = x.token;
       rest = x.rest;
-      whole = x.whole;
+      split = x.split;
       next = x.next;
       many = x.many;
       begins = x.begins;
       shallow = x.shallow;
       local = λ w.
-          q (tokens_of x.used ++ (x.token ∷ w)) (fits_same (tokens_of x.used) ts x.rest x.token (x.whole ∙ ap (λ v. tokens_of x.used ++ v) x.next) w) ∙ x.local w;
+          q (tokens_of x.used ++ (x.token ∷ w)) (fits_same (tokens_of x.used) ts x.rest x.token (x.split ∙ ap (λ v. tokens_of x.used ++ v) x.next) w) ∙ x.local w;
     }
 
     pub sound_same : Found stop S ts (stop ts) → Found f S ts (f ts)

@@ -1,6 +1,8 @@
 -- The steps of the program's reader.
 use Rattle.std.proofs.Common.{◌≡◌, ◌<◌, ◌+◌, ◌-◌, ℕ, zero, suc, Bool, true, false, cond, List, [], ◌∷◌, ◌++◌, length, drop, Option, Some, None, refl, sym, ap, subst, ◌∙◌, arith, append_assoc}
 use Rattle.txs_lexer.specs.declared.token.Token.{Token}
+use Rattle.txs_lexer.specs.declared.symbol.TheConstants.{MINUS, IS, OPEN, CLOSE, COMMA, SEMICOLON}
+use Rattle.txs_lexer.specs.declared.word.TheConstants.{IN, NI, THEN, ELSE, FI}
 use Rattle.txs_syntax.specs.declared.ast.Name.{Name}
 use Rattle.txs_syntax.specs.declared.ast.Op.{Op}
 use Rattle.txs_syntax.specs.declared.ast.Ast.{Ast}
@@ -9,9 +11,15 @@ use Rattle.txs_syntax.specs.Grammar.{Tokens, Signs, sign_of, or_signs, and_signs
 use Rattle.txs_parse_expr.specs.declared.fault.Stop.{Stop}
 use Rattle.txs_parse_expr.specs.declared.fault.Stop.TheVariants.{Unexpected, Deep, NoMemory}
 use Rattle.txs_parse_expr.specs.Reader.{Outcome, ok, bad, deep, after, Reader, is_symbol, is_word, at_token, on, expect, by_op, on_sign, right, chain, many, where_room, call_at, group_at, if_at, value_at, bind_at, let_at, prim_at, un_at, readers}
-use Rattle.txs_parse_expr.specs.View.{Stopped, first_sign, with_front}
+use Rattle.txs_parse_expr.specs.View.{Stopped, first_sign}
 use Rattle.txs_parse_expr.proofs.Lines.{all_is}
 use Rattle.txs_parse_expr.proofs.Levels.{sound_readers, shorter, bind_ok}
+
+-- the items with these before them
+abbrev pub with_front : {A : Type 0} → List A → Outcome (List A) → Outcome (List A)
+with_front front (ok xs r) = ok (front ++ xs) r
+with_front front (bad r) = bad r
+with_front front (deep r) = deep r
 
 pub drop_next : {A : Type 0} (n : ℕ) (ts : List A) → drop (n + 1) ts ≡ drop 1 (drop n ts)
 drop_next zero ts = refl
@@ -136,13 +144,13 @@ un_is (suc left) h r = let e : suc left - 1 ≡ left = omega arith in rw e refl
 
 module _ (left : ℕ) where
   abbrev pub args : Tokens → Outcome (List Ast)
-  args ts = many (readers left).expr 42 (suc (length ts)) ts
+  args ts = many (readers left).expr COMMA (suc (length ts)) ts
 
   abbrev after_one : Ast → Tokens → Outcome (List Ast)
-  after_one x r = on (is_symbol 42) r (λ r2. after (args r2) (λ xs r3. ok (x ∷ xs) r3)) (ok (x ∷ []) r)
+  after_one x r = on (is_symbol COMMA) r (λ r2. after (args r2) (λ xs r3. ok (x ∷ xs) r3)) (ok (x ∷ []) r)
 
   args_is : (ts : Tokens) → args ts ≡ after ((readers left).expr ts) after_one
-  args_is ts = all_is left (readers left).expr 42 (shorter left (readers left).expr (SpellsAt expr 0) (sound_readers left left 0 (omega arith)).expr_ok) ts
+  args_is ts = all_is left (readers left).expr COMMA (shorter left (readers left).expr (SpellsAt expr 0) (sound_readers left left 0 (omega arith)).expr_ok) ts
 
   front_more : (items : List Ast) (e : Ast) (o : Outcome (List Ast)) → with_front items (after o (λ xs r. ok (e ∷ xs) r)) ≡ with_front (items ++ e ∷ []) o
   front_more items e (ok xs r) = ap (λ l. ok l r) (sym (append_assoc items (e ∷ []) xs))
@@ -158,13 +166,13 @@ module _ (left : ℕ) where
     args_at : args (drop n ts) ≡ after_one e (drop m ts)
     args_at = args_is (drop n ts) ∙ ap (λ o. after o after_one) read
 
-    pub args_next : true ≡ on (is_symbol 42) (drop m ts) (λ _. true) false → with_front items (args (drop n ts)) ≡ with_front (items ++ e ∷ []) (args (drop (m + 1) ts))
+    pub args_next : true ≡ on (is_symbol COMMA) (drop m ts) (λ _. true) false → with_front items (args (drop n ts)) ≡ with_front (items ++ e ∷ []) (args (drop (m + 1) ts))
     args_next h =
-        ap (with_front items) (args_at ∙ on_step (is_symbol 42) ts m h (λ r2. after (args r2) (λ xs r3. ok (e ∷ xs) r3)) (ok (e ∷ []) (drop m ts)))
+        ap (with_front items) (args_at ∙ on_step (is_symbol COMMA) ts m h (λ r2. after (args r2) (λ xs r3. ok (e ∷ xs) r3)) (ok (e ∷ []) (drop m ts)))
         ∙ front_more items e (args (drop (m + 1) ts))
 
-    pub args_last : false ≡ on (is_symbol 42) (drop m ts) (λ _. true) false → with_front items (args (drop n ts)) ≡ ok (items ++ e ∷ []) (drop m ts)
-    args_last h = ap (with_front items) (args_at ∙ on_stop (is_symbol 42) (drop m ts) h (λ r2. after (args r2) (λ xs r3. ok (e ∷ xs) r3)) (ok (e ∷ []) (drop m ts)))
+    pub args_last : false ≡ on (is_symbol COMMA) (drop m ts) (λ _. true) false → with_front items (args (drop n ts)) ≡ ok (items ++ e ∷ []) (drop m ts)
+    args_last h = ap (with_front items) (args_at ∙ on_stop (is_symbol COMMA) (drop m ts) h (λ r2. after (args r2) (λ xs r3. ok (e ∷ xs) r3)) (ok (e ∷ []) (drop m ts)))
 
   front_stopped : (ts : Tokens) (items : List Ast) (e : Stop) (o : Outcome (List Ast)) → Stopped ts e o → Stopped ts e (with_front items o)
   front_stopped ts items (Unexpected k) o h = rw h refl
@@ -177,17 +185,17 @@ module _ (left : ℕ) where
 
 -- ---- IF
 
-module _ (l : ℕ) (ts r : Tokens) (at : ℕ) (n : ℕ) (c : Ast) (read : (readers l).expr r ≡ ok c (drop n ts)) (word : true ≡ on (is_word 36) (drop n ts) (λ _. true) false) where
+module _ (l : ℕ) (ts r : Tokens) (at : ℕ) (n : ℕ) (c : Ast) (read : (readers l).expr r ≡ ok c (drop n ts)) (word : true ≡ on (is_word THEN) (drop n ts) (λ _. true) false) where
   abbrev last_part : Ast → Ast → Tokens → Outcome Ast
-  last_part a b ts5 = expect (is_word 38) ts5 (λ ts6. ok (tree.If at c a b) ts6)
+  last_part a b ts5 = expect (is_word FI) ts5 (λ ts6. ok (tree.If at c a b) ts6)
 
   abbrev else_part : Ast → Tokens → Outcome Ast
-  else_part a ts3 = expect (is_word 37) ts3 (λ ts4. after ((readers l).expr ts4) (last_part a))
+  else_part a ts3 = expect (is_word ELSE) ts3 (λ ts4. after ((readers l).expr ts4) (last_part a))
 
   if_first : if_at (readers l) at r ≡ after ((readers l).expr (drop (n + 1) ts)) else_part
   if_first =
-      ap (λ o. after o (λ c ts1. expect (is_word 36) ts1 (λ ts2. after ((readers l).expr ts2) (λ a ts3. expect (is_word 37) ts3 (λ ts4. after ((readers l).expr ts4) (λ b ts5. expect (is_word 38) ts5 (λ ts6. ok (tree.If at c a b) ts6))))))) read
-      ∙ on_step (is_word 36) ts n word (λ ts2. after ((readers l).expr ts2) else_part) (bad (drop n ts))
+      ap (λ o. after o (λ c ts1. expect (is_word THEN) ts1 (λ ts2. after ((readers l).expr ts2) (λ a ts3. expect (is_word ELSE) ts3 (λ ts4. after ((readers l).expr ts4) (λ b ts5. expect (is_word FI) ts5 (λ ts6. ok (tree.If at c a b) ts6))))))) read
+      ∙ on_step (is_word THEN) ts n word (λ ts2. after ((readers l).expr ts2) else_part) (bad (drop n ts))
 
   pub if_stopped : (e : Stop) → Stopped ts e ((readers l).expr (drop (n + 1) ts)) → Stopped ts e (if_at (readers l) at r)
   if_stopped e h = subst (Stopped ts e) (sym if_first) (stopped_after ts e ((readers l).expr (drop (n + 1) ts)) else_part h)
@@ -196,55 +204,55 @@ module _ (l : ℕ) (ts r : Tokens) (at : ℕ) (n : ℕ) (c : Ast) (read : (reade
     if_at_else : if_at (readers l) at r ≡ else_part a (drop m ts)
     if_at_else = if_first ∙ ap (λ o. after o else_part) next
 
-    pub if_no_else : false ≡ on (is_word 37) (drop m ts) (λ _. true) false → if_at (readers l) at r ≡ bad (drop m ts)
-    if_no_else h = if_at_else ∙ on_stop (is_word 37) (drop m ts) h (λ ts4. after ((readers l).expr ts4) (last_part a)) (bad (drop m ts))
+    pub if_no_else : false ≡ on (is_word ELSE) (drop m ts) (λ _. true) false → if_at (readers l) at r ≡ bad (drop m ts)
+    if_no_else h = if_at_else ∙ on_stop (is_word ELSE) (drop m ts) h (λ ts4. after ((readers l).expr ts4) (last_part a)) (bad (drop m ts))
 
-    module _ (other : true ≡ on (is_word 37) (drop m ts) (λ _. true) false) where
+    module _ (other : true ≡ on (is_word ELSE) (drop m ts) (λ _. true) false) where
       if_second : if_at (readers l) at r ≡ after ((readers l).expr (drop (m + 1) ts)) (last_part a)
-      if_second = if_at_else ∙ on_step (is_word 37) ts m other (λ ts4. after ((readers l).expr ts4) (last_part a)) (bad (drop m ts))
+      if_second = if_at_else ∙ on_step (is_word ELSE) ts m other (λ ts4. after ((readers l).expr ts4) (last_part a)) (bad (drop m ts))
 
       pub if_stopped_else : (e : Stop) → Stopped ts e ((readers l).expr (drop (m + 1) ts)) → Stopped ts e (if_at (readers l) at r)
       if_stopped_else e h = subst (Stopped ts e) (sym if_second) (stopped_after ts e ((readers l).expr (drop (m + 1) ts)) (last_part a) h)
 
-      pub if_no_end : (k : ℕ) (b : Ast) → (readers l).expr (drop (m + 1) ts) ≡ ok b (drop k ts) → false ≡ on (is_word 38) (drop k ts) (λ _. true) false
+      pub if_no_end : (k : ℕ) (b : Ast) → (readers l).expr (drop (m + 1) ts) ≡ ok b (drop k ts) → false ≡ on (is_word FI) (drop k ts) (λ _. true) false
           → if_at (readers l) at r ≡ bad (drop k ts)
-      if_no_end k b q h = if_second ∙ (ap (λ o. after o (last_part a)) q ∙ on_stop (is_word 38) (drop k ts) h (λ ts6. ok (tree.If at c a b) ts6) (bad (drop k ts)))
+      if_no_end k b q h = if_second ∙ (ap (λ o. after o (last_part a)) q ∙ on_stop (is_word FI) (drop k ts) h (λ ts6. ok (tree.If at c a b) ts6) (bad (drop k ts)))
 
-      pub if_end : (k : ℕ) (b f : Ast) → (readers l).expr (drop (m + 1) ts) ≡ ok b (drop k ts) → true ≡ on (is_word 38) (drop k ts) (λ _. true) false
+      pub if_end : (k : ℕ) (b f : Ast) → (readers l).expr (drop (m + 1) ts) ≡ ok b (drop k ts) → true ≡ on (is_word FI) (drop k ts) (λ _. true) false
           → f ≡ tree.If at c a b → if_at (readers l) at r ≡ ok f (drop (k + 1) ts)
       if_end k b f q h g =
-          if_second ∙ (ap (λ o. after o (last_part a)) q ∙ (on_step (is_word 38) ts k h (λ ts6. ok (tree.If at c a b) ts6) (bad (drop k ts)) ∙ ap (λ x. ok x (drop (k + 1) ts)) (sym g)))
+          if_second ∙ (ap (λ o. after o (last_part a)) q ∙ (on_step (is_word FI) ts k h (λ ts6. ok (tree.If at c a b) ts6) (bad (drop k ts)) ∙ ap (λ x. ok x (drop (k + 1) ts)) (sym g)))
 
 -- ---- parentheses
 
-pub group_end : (l at : ℕ) (ts r : Tokens) (n : ℕ) (e f : Ast) → (readers l).expr r ≡ ok e (drop n ts) → true ≡ on (is_symbol 37) (drop n ts) (λ _. true) false
+pub group_end : (l at : ℕ) (ts r : Tokens) (n : ℕ) (e f : Ast) → (readers l).expr r ≡ ok e (drop n ts) → true ≡ on (is_symbol CLOSE) (drop n ts) (λ _. true) false
     → f ≡ tree.Group at e → group_at (readers l) at r ≡ ok f (drop (n + 1) ts)
 group_end l at ts r n e f q h g =
-    ap (λ o. after o (λ x ts1. expect (is_symbol 37) ts1 (λ ts2. ok (tree.Group at x) ts2))) q
-    ∙ (on_step (is_symbol 37) ts n h (λ ts2. ok (tree.Group at e) ts2) (bad (drop n ts)) ∙ ap (λ x. ok x (drop (n + 1) ts)) (sym g))
+    ap (λ o. after o (λ x ts1. expect (is_symbol CLOSE) ts1 (λ ts2. ok (tree.Group at x) ts2))) q
+    ∙ (on_step (is_symbol CLOSE) ts n h (λ ts2. ok (tree.Group at e) ts2) (bad (drop n ts)) ∙ ap (λ x. ok x (drop (n + 1) ts)) (sym g))
 
 room_left : (l : ℕ) → (l ≡ 0 → ⊥) → (readers l).is_full ≡ false
 room_left zero h = absurd (h refl)
 room_left (suc l) h = refl
 
-pub call_empty : (l : ℕ) (ts : Tokens) (n : ℕ) (x : Name) (f : Ast) → (l ≡ 0 → ⊥) → true ≡ on (is_symbol 37) (drop n ts) (λ _. true) false → f ≡ tree.Call x []
+pub call_empty : (l : ℕ) (ts : Tokens) (n : ℕ) (x : Name) (f : Ast) → (l ≡ 0 → ⊥) → true ≡ on (is_symbol CLOSE) (drop n ts) (λ _. true) false → f ≡ tree.Call x []
     → call_at (readers l) x (drop n ts) ≡ ok f (drop (n + 1) ts)
 call_empty l ts n x f g h e =
     let q : (readers l).is_full ≡ false = room_left l g in
-    on_step (is_symbol 37) ts n h (λ ts1. where_room (readers l).is_full (drop n ts) (ok (tree.Call x []) ts1)) _
+    on_step (is_symbol CLOSE) ts n h (λ ts1. where_room (readers l).is_full (drop n ts) (ok (tree.Call x []) ts1)) _
     ∙ (ap (λ b. where_room b (drop n ts) (ok (tree.Call x []) (drop (n + 1) ts))) q ∙ ap (λ z. ok z (drop (n + 1) ts)) (sym e))
 
-pub call_end : (l : ℕ) (ts : Tokens) (n m : ℕ) (x : Name) (f : Ast) (es : List Ast) → false ≡ on (is_symbol 37) (drop n ts) (λ _. true) false
-    → args l (drop n ts) ≡ ok es (drop m ts) → true ≡ on (is_symbol 37) (drop m ts) (λ _. true) false → f ≡ tree.Call x es
+pub call_end : (l : ℕ) (ts : Tokens) (n m : ℕ) (x : Name) (f : Ast) (es : List Ast) → false ≡ on (is_symbol CLOSE) (drop n ts) (λ _. true) false
+    → args l (drop n ts) ≡ ok es (drop m ts) → true ≡ on (is_symbol CLOSE) (drop m ts) (λ _. true) false → f ≡ tree.Call x es
     → call_at (readers l) x (drop n ts) ≡ ok f (drop (m + 1) ts)
 call_end l ts n m x f es h q k e =
-    let close = λ (zs : List Ast) (ts1 : Tokens). expect (is_symbol 37) ts1 (λ ts2. ok (tree.Call x zs) ts2) in
-    on_stop (is_symbol 37) (drop n ts) h (λ ts1. where_room (readers l).is_full (drop n ts) (ok (tree.Call x []) ts1)) (after (args l (drop n ts)) close)
-    ∙ (ap (λ o. after o close) q ∙ (on_step (is_symbol 37) ts m k (λ ts2. ok (tree.Call x es) ts2) (bad (drop m ts)) ∙ ap (λ z. ok z (drop (m + 1) ts)) (sym e)))
+    let close = λ (zs : List Ast) (ts1 : Tokens). expect (is_symbol CLOSE) ts1 (λ ts2. ok (tree.Call x zs) ts2) in
+    on_stop (is_symbol CLOSE) (drop n ts) h (λ ts1. where_room (readers l).is_full (drop n ts) (ok (tree.Call x []) ts1)) (after (args l (drop n ts)) close)
+    ∙ (ap (λ o. after o close) q ∙ (on_step (is_symbol CLOSE) ts m k (λ ts2. ok (tree.Call x es) ts2) (bad (drop m ts)) ∙ ap (λ z. ok z (drop (m + 1) ts)) (sym e)))
 
-pub named_call : (l : ℕ) (ts : Tokens) (n : ℕ) (x : Name) → true ≡ on (is_symbol 36) (drop n ts) (λ _. true) false
-    → call_at (readers l) x (drop (n + 1) ts) ≡ on (is_symbol 36) (drop n ts) (call_at (readers l) x) (ok (tree.Name x) (drop n ts))
-named_call l ts n x h = sym (on_step (is_symbol 36) ts n h (call_at (readers l) x) (ok (tree.Name x) (drop n ts)))
+pub named_call : (l : ℕ) (ts : Tokens) (n : ℕ) (x : Name) → true ≡ on (is_symbol OPEN) (drop n ts) (λ _. true) false
+    → call_at (readers l) x (drop (n + 1) ts) ≡ on (is_symbol OPEN) (drop n ts) (call_at (readers l) x) (ok (tree.Name x) (drop n ts))
+named_call l ts n x h = sym (on_step (is_symbol OPEN) ts n h (call_at (readers l) x) (ok (tree.Name x) (drop n ts)))
 
 -- ---- minus
 
@@ -270,13 +278,13 @@ module _ (left : ℕ) (room : 0 < left) (ts : Tokens) (n : ℕ) where
   abbrev minus_go : ℕ → Tokens → Outcome Ast
   minus_go at ts1 = after ((readers (left - 1)).un ts1) (λ a ts2. ok (tree.Negate at a) ts2)
 
-  pub minus_none : None ≡ at_token (is_symbol 25) (drop n ts) (λ c _. Some c.from) None → (readers left).un (drop n ts) ≡ prim_at (readers (left - 1)) (drop n ts)
-  minus_none h = un_is left room (drop n ts) ∙ token_passed (is_symbol 25) (λ c. c.from) (drop n ts) h minus_go (prim_at (readers (left - 1)) (drop n ts))
+  pub minus_none : None ≡ at_token (is_symbol MINUS) (drop n ts) (λ c _. Some c.from) None → (readers left).un (drop n ts) ≡ prim_at (readers (left - 1)) (drop n ts)
+  minus_none h = un_is left room (drop n ts) ∙ token_passed (is_symbol MINUS) (λ c. c.from) (drop n ts) h minus_go (prim_at (readers (left - 1)) (drop n ts))
 
-  module _ (at : ℕ) (h : Some at ≡ at_token (is_symbol 25) (drop n ts) (λ c _. Some c.from) None) where
+  module _ (at : ℕ) (h : Some at ≡ at_token (is_symbol MINUS) (drop n ts) (λ c _. Some c.from) None) where
     minus_is : (readers left).un (drop n ts) ≡ minus_go at (drop (n + 1) ts)
     minus_is =
-        un_is left room (drop n ts) ∙ (token_taken (is_symbol 25) (λ c. c.from) (drop n ts) at h minus_go (prim_at (readers (left - 1)) (drop n ts))
+        un_is left room (drop n ts) ∙ (token_taken (is_symbol MINUS) (λ c. c.from) (drop n ts) at h minus_go (prim_at (readers (left - 1)) (drop n ts))
         ∙ ap (minus_go at) (sym (drop_next n ts)))
 
     pub minus_stopped : (e : Stop) → Stopped ts e ((readers (left - 1)).un (drop (n + 1) ts)) → Stopped ts e ((readers left).un (drop n ts))
@@ -289,13 +297,13 @@ module _ (left : ℕ) (room : 0 < left) (ts : Tokens) (n : ℕ) where
 
 module _ (left : ℕ) where
   abbrev pub binds : Tokens → Outcome (List Bind)
-  binds ts = many (bind_at (readers left)) 43 (suc (length ts)) ts
+  binds ts = many (bind_at (readers left)) SEMICOLON (suc (length ts)) ts
 
   abbrev after_bind : Bind → Tokens → Outcome (List Bind)
-  after_bind x r = on (is_symbol 43) r (λ r2. after (binds r2) (λ xs r3. ok (x ∷ xs) r3)) (ok (x ∷ []) r)
+  after_bind x r = on (is_symbol SEMICOLON) r (λ r2. after (binds r2) (λ xs r3. ok (x ∷ xs) r3)) (ok (x ∷ []) r)
 
   binds_is : (ts : Tokens) → binds ts ≡ after (bind_at (readers left) ts) after_bind
-  binds_is ts = all_is (suc left) (bind_at (readers left)) 43 (shorter (suc left) (bind_at (readers left)) (BindAt 1) (bind_ok (suc left) 0 (omega arith) (readers left) (sound_readers (suc left) left 1 (omega arith)))) ts
+  binds_is ts = all_is (suc left) (bind_at (readers left)) SEMICOLON (shorter (suc left) (bind_at (readers left)) (BindAt 1) (bind_ok (suc left) 0 (omega arith) (readers left) (sound_readers (suc left) left 1 (omega arith)))) ts
 
   binds_more : (items : List Bind) (e : Bind) (o : Outcome (List Bind)) → with_front items (after o (λ xs r. ok (e ∷ xs) r)) ≡ with_front (items ++ e ∷ []) o
   binds_more items e (ok xs r) = ap (λ l. ok l r) (sym (append_assoc items (e ∷ []) xs))
@@ -303,39 +311,39 @@ module _ (left : ℕ) where
   binds_more items e (deep r) = refl
 
   pub binds_next : (ts : Tokens) (items : List Bind) (n m : ℕ) (e : Bind) → bind_at (readers left) (drop n ts) ≡ ok e (drop m ts)
-      → true ≡ on (is_symbol 43) (drop m ts) (λ _. true) false → with_front items (binds (drop n ts)) ≡ with_front (items ++ e ∷ []) (binds (drop (m + 1) ts))
+      → true ≡ on (is_symbol SEMICOLON) (drop m ts) (λ _. true) false → with_front items (binds (drop n ts)) ≡ with_front (items ++ e ∷ []) (binds (drop (m + 1) ts))
   binds_next ts items n m e read h =
-      ap (with_front items) (binds_is (drop n ts) ∙ (ap (λ o. after o after_bind) read ∙ on_step (is_symbol 43) ts m h (λ r2. after (binds r2) (λ xs r3. ok (e ∷ xs) r3)) (ok (e ∷ []) (drop m ts))))
+      ap (with_front items) (binds_is (drop n ts) ∙ (ap (λ o. after o after_bind) read ∙ on_step (is_symbol SEMICOLON) ts m h (λ r2. after (binds r2) (λ xs r3. ok (e ∷ xs) r3)) (ok (e ∷ []) (drop m ts))))
       ∙ binds_more items e (binds (drop (m + 1) ts))
 
 -- ---- LET
 
-module _ (l : ℕ) (ts r : Tokens) (at : ℕ) (n : ℕ) (bs : List Bind) (read : binds l r ≡ ok bs (drop n ts)) (word : true ≡ on (is_word 11) (drop n ts) (λ _. true) false) where
+module _ (l : ℕ) (ts r : Tokens) (at : ℕ) (n : ℕ) (bs : List Bind) (read : binds l r ≡ ok bs (drop n ts)) (word : true ≡ on (is_word IN) (drop n ts) (λ _. true) false) where
   abbrev body_part : Ast → Tokens → Outcome Ast
-  body_part e ts3 = expect (is_word 32) ts3 (λ ts4. ok (bound at bs e) ts4)
+  body_part e ts3 = expect (is_word NI) ts3 (λ ts4. ok (bound at bs e) ts4)
 
   let_first : let_at (readers l) at r ≡ after ((readers l).expr (drop (n + 1) ts)) body_part
   let_first =
-      ap (λ o. after o (λ cs ts1. expect (is_word 11) ts1 (λ ts2. after ((readers l).expr ts2) (λ e ts3. expect (is_word 32) ts3 (λ ts4. ok (bound at cs e) ts4))))) read
-      ∙ on_step (is_word 11) ts n word (λ ts2. after ((readers l).expr ts2) body_part) (bad (drop n ts))
+      ap (λ o. after o (λ cs ts1. expect (is_word IN) ts1 (λ ts2. after ((readers l).expr ts2) (λ e ts3. expect (is_word NI) ts3 (λ ts4. ok (bound at cs e) ts4))))) read
+      ∙ on_step (is_word IN) ts n word (λ ts2. after ((readers l).expr ts2) body_part) (bad (drop n ts))
 
   pub let_stopped : (e : Stop) → Stopped ts e ((readers l).expr (drop (n + 1) ts)) → Stopped ts e (let_at (readers l) at r)
   let_stopped e h = subst (Stopped ts e) (sym let_first) (stopped_after ts e ((readers l).expr (drop (n + 1) ts)) body_part h)
 
-  pub let_no_end : (m : ℕ) (a : Ast) → (readers l).expr (drop (n + 1) ts) ≡ ok a (drop m ts) → false ≡ on (is_word 32) (drop m ts) (λ _. true) false
+  pub let_no_end : (m : ℕ) (a : Ast) → (readers l).expr (drop (n + 1) ts) ≡ ok a (drop m ts) → false ≡ on (is_word NI) (drop m ts) (λ _. true) false
       → let_at (readers l) at r ≡ bad (drop m ts)
-  let_no_end m a q h = let_first ∙ (ap (λ o. after o body_part) q ∙ on_stop (is_word 32) (drop m ts) h (λ ts4. ok (bound at bs a) ts4) (bad (drop m ts)))
+  let_no_end m a q h = let_first ∙ (ap (λ o. after o body_part) q ∙ on_stop (is_word NI) (drop m ts) h (λ ts4. ok (bound at bs a) ts4) (bad (drop m ts)))
 
-  pub let_end : (m : ℕ) (a f : Ast) → (readers l).expr (drop (n + 1) ts) ≡ ok a (drop m ts) → true ≡ on (is_word 32) (drop m ts) (λ _. true) false
+  pub let_end : (m : ℕ) (a f : Ast) → (readers l).expr (drop (n + 1) ts) ≡ ok a (drop m ts) → true ≡ on (is_word NI) (drop m ts) (λ _. true) false
       → f ≡ bound at bs a → let_at (readers l) at r ≡ ok f (drop (m + 1) ts)
   let_end m a f q h g =
-      let_first ∙ (ap (λ o. after o body_part) q ∙ (on_step (is_word 32) ts m h (λ ts4. ok (bound at bs a) ts4) (bad (drop m ts)) ∙ ap (λ x. ok x (drop (m + 1) ts)) (sym g)))
+      let_first ∙ (ap (λ o. after o body_part) q ∙ (on_step (is_word NI) ts m h (λ ts4. ok (bound at bs a) ts4) (bad (drop m ts)) ∙ ap (λ x. ok x (drop (m + 1) ts)) (sym g)))
 
 -- ---- one binding
 
-module _ (l : ℕ) (ts : Tokens) (n : ℕ) (x : Name) (h : true ≡ on (is_symbol 31) (drop n ts) (λ _. true) false) where
+module _ (l : ℕ) (ts : Tokens) (n : ℕ) (x : Name) (h : true ≡ on (is_symbol IS) (drop n ts) (λ _. true) false) where
   value_is : value_at (readers l) x (drop n ts) ≡ after ((readers l).expr (drop (n + 1) ts)) (λ e ts2. ok (x, e) ts2)
-  value_is = on_step (is_symbol 31) ts n h (λ ts1. after ((readers l).expr ts1) (λ e ts2. ok (x, e) ts2)) (bad (drop n ts))
+  value_is = on_step (is_symbol IS) ts n h (λ ts1. after ((readers l).expr ts1) (λ e ts2. ok (x, e) ts2)) (bad (drop n ts))
 
   pub value_stopped : (e : Stop) → Stopped ts e ((readers l).expr (drop (n + 1) ts)) → Stopped ts e (value_at (readers l) x (drop n ts))
   value_stopped e k = subst (Stopped ts e) (sym value_is) (stopped_after ts e ((readers l).expr (drop (n + 1) ts)) (λ e ts2. ok (x, e) ts2) k)

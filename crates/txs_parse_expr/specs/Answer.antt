@@ -8,9 +8,9 @@ use Rattle.txs_parse_expr.specs.declared.fault.ParseFault.{ParseFault}
 use Rattle.txs_parse_expr.specs.declared.fault.ParseFault.TheVariants.{Unexpected, Deep, NoMemory}
 
 -- the place of the first token, or of the text's end
-abbrev pub place : ℕ → Tokens → ℕ
-place len [] = len
-place len (c ∷ ts) = c.from
+abbrev pub offset : ℕ → Tokens → ℕ
+offset len [] = len
+offset len (c ∷ ts) = c.from
 
 -- p, the longest run that may begin an expression, is that expression, and the token after it has this number
 pub record IsRead (tokens : Tokens) (from depth : ℕ) (tree : Ast) (next : ℕ) (p rest : Tokens) : Type 0 where
@@ -23,13 +23,13 @@ pub record IsUnexpected (tokens : Tokens) (from len depth at : ℕ) (p rest : To
   pub longest : Longest (drop from tokens) p rest
   pub no_tree : (tree : Ast) → Spells tree p → ⊥
   pub within : Within depth p
-  pub place : at ≡ place len rest
+  pub offset : at ≡ offset len rest
 
 -- the token c after p is the first that is too deep, and this is its place
 pub record IsDeep (tokens : Tokens) (from depth at : ℕ) (p : Tokens) (c : Token) (rest : Tokens) : Type 0 where
-  pub whole : drop from tokens ≡ p ++ c ∷ rest
+  pub split : drop from tokens ≡ p ++ c ∷ rest
   pub deep : TooDeep depth p c
-  pub place : at ≡ c.from
+  pub offset : at ≡ c.from
 
 -- the answer for the tokens from the one with the number `from` on, in a text of so many bytes, where the first token has this depth
 abbrev pub IsAnswer : Tokens → ℕ → ℕ → ℕ → Result (Ast × ℕ) ParseFault → Type 0

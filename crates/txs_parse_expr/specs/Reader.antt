@@ -3,6 +3,8 @@ use Rattle.std.specs.Prelude.{ℕ, zero, suc, Bool, true, false, cond, eqb, ◌|
 use Rattle.txs_lexer.specs.declared.token.Token.{Token}
 use Rattle.txs_lexer.specs.declared.token.Kind.{Kind}
 use Rattle.txs_lexer.specs.declared.token.Kind.TheVariants.{Name, Word, Number, Quoted, Symbol}
+use Rattle.txs_lexer.specs.declared.symbol.TheConstants.{MINUS, IS, OPEN, CLOSE, COMMA, SEMICOLON}
+use Rattle.txs_lexer.specs.declared.word.TheConstants.{IN, NI, LET, IF, THEN, ELSE, FI}
 use Rattle.txs_syntax.specs.declared.ast.Name as rust
 use Rattle.txs_syntax.specs.declared.ast.Op.{Op}
 use Rattle.txs_syntax.specs.declared.ast.Ast.{Ast}
@@ -96,20 +98,20 @@ where_room is_full ts go = cond is_full (deep ts) go
 module _ (within : Readers) where
   abbrev pub call_at : rust.Name → Reader
   call_at x ts =
-      on (is_symbol 37) ts (λ ts1. where_room within.is_full ts (ok (tree.Call x []) ts1))
-      (after (many within.expr 42 (suc (length ts)) ts) (λ es ts1. expect (is_symbol 37) ts1 (λ ts2. ok (tree.Call x es) ts2)))
+      on (is_symbol CLOSE) ts (λ ts1. where_room within.is_full ts (ok (tree.Call x []) ts1))
+      (after (many within.expr COMMA (suc (length ts)) ts) (λ es ts1. expect (is_symbol CLOSE) ts1 (λ ts2. ok (tree.Call x es) ts2)))
 
   abbrev pub group_at : ℕ → Reader
-  group_at at ts = after (within.expr ts) (λ e ts1. expect (is_symbol 37) ts1 (λ ts2. ok (tree.Group at e) ts2))
+  group_at at ts = after (within.expr ts) (λ e ts1. expect (is_symbol CLOSE) ts1 (λ ts2. ok (tree.Group at e) ts2))
 
   abbrev pub if_at : ℕ → Reader
   if_at at ts =
-      after (within.expr ts) (λ c ts1. expect (is_word 36) ts1 (λ ts2.
-      after (within.expr ts2) (λ a ts3. expect (is_word 37) ts3 (λ ts4.
-      after (within.expr ts4) (λ b ts5. expect (is_word 38) ts5 (λ ts6. ok (tree.If at c a b) ts6))))))
+      after (within.expr ts) (λ c ts1. expect (is_word THEN) ts1 (λ ts2.
+      after (within.expr ts2) (λ a ts3. expect (is_word ELSE) ts3 (λ ts4.
+      after (within.expr ts4) (λ b ts5. expect (is_word FI) ts5 (λ ts6. ok (tree.If at c a b) ts6))))))
 
   abbrev pub value_at : rust.Name → Tokens → Outcome Bind
-  value_at x ts = expect (is_symbol 31) ts (λ ts1. after (within.expr ts1) (λ e ts2. ok (x, e) ts2))
+  value_at x ts = expect (is_symbol IS) ts (λ ts1. after (within.expr ts1) (λ e ts2. ok (x, e) ts2))
 
   abbrev pub bind_of : Kind → Token → Tokens → Outcome Bind
   bind_of (Name x) c ts = where_room within.is_full (c ∷ ts) (value_at (named c x) ts)
@@ -124,22 +126,22 @@ module _ (within : Readers) where
 
   abbrev pub let_at : ℕ → Reader
   let_at at ts =
-      after (many bind_at 43 (suc (length ts)) ts) (λ bs ts1. expect (is_word 11) ts1 (λ ts2.
-      after (within.expr ts2) (λ e ts3. expect (is_word 32) ts3 (λ ts4. ok (bound at bs e) ts4))))
+      after (many bind_at SEMICOLON (suc (length ts)) ts) (λ bs ts1. expect (is_word IN) ts1 (λ ts2.
+      after (within.expr ts2) (λ e ts3. expect (is_word NI) ts3 (λ ts4. ok (bound at bs e) ts4))))
 
   abbrev pub prim_of : Kind → Token → Reader
   prim_of (Number n) c ts = ok (tree.Number c.from n) ts
   prim_of (Quoted s) c ts = ok (tree.Text c.from s) ts
-  prim_of (Name x) c ts = on (is_symbol 36) ts (call_at (named c x)) (ok (tree.Name (named c x)) ts)
-  prim_of (Symbol s) c ts = cond (eqb s 36) (group_at c.from ts) (bad (c ∷ ts))
-  prim_of (Word w) c ts = cond (eqb w 35) (if_at c.from ts) (cond (eqb w 34) (let_at c.from ts) (bad (c ∷ ts)))
+  prim_of (Name x) c ts = on (is_symbol OPEN) ts (call_at (named c x)) (ok (tree.Name (named c x)) ts)
+  prim_of (Symbol s) c ts = cond (eqb s OPEN) (group_at c.from ts) (bad (c ∷ ts))
+  prim_of (Word w) c ts = cond (eqb w IF) (if_at c.from ts) (cond (eqb w LET) (let_at c.from ts) (bad (c ∷ ts)))
 
   abbrev pub prim_at : Reader
   prim_at [] = bad []
   prim_at (c ∷ ts) = prim_of c.kind c ts
 
   abbrev pub un_at : Reader
-  un_at ts = at_token (is_symbol 25) ts (λ c ts1. after (within.un ts1) (λ a ts2. ok (tree.Negate c.from a) ts2)) (prim_at ts)
+  un_at ts = at_token (is_symbol MINUS) ts (λ c ts1. after (within.un ts1) (λ a ts2. ok (tree.Negate c.from a) ts2)) (prim_at ts)
 
   abbrev pub prods_at : Ast → Reader
   prods_at a ts = chain product_signs within.un within.prods a ts
@@ -166,8 +168,8 @@ module _ (within : Readers) where
   expr_at ts = right or_signs conj_at within.expr ts
 
 abbrev pub kind_begins : Kind → Bool
-kind_begins (Symbol s) = eqb s 25 || eqb s 36
-kind_begins (Word w) = eqb w 34 || eqb w 35
+kind_begins (Symbol s) = eqb s MINUS || eqb s OPEN
+kind_begins (Word w) = eqb w LET || eqb w IF
 kind_begins (Name x) = true
 kind_begins (Number n) = true
 kind_begins (Quoted s) = true

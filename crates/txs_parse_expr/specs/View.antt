@@ -1,11 +1,11 @@
 -- What a result of the program says of an outcome.
-use Rattle.std.specs.Prelude.{◌≡◌, ℕ, List, ◌++◌, drop, Result, Ok, Err, Option, Some, None}
+use Rattle.std.specs.Prelude.{◌≡◌, ℕ, drop, Result, Ok, Err, Option, Some, None}
 use Rattle.txs_syntax.specs.declared.ast.Op.{Op}
 use Rattle.txs_parse_expr.specs.declared.fault.Stop.{Stop}
 use Rattle.txs_parse_expr.specs.declared.fault.Stop.TheVariants.{Unexpected, Deep, NoMemory}
 use Rattle.txs_parse_expr.specs.declared.fault.ParseFault.{ParseFault}
 use Rattle.txs_parse_expr.specs.declared.fault.ParseFault.TheVariants as parse
-use Rattle.txs_parse_expr.specs.Answer.{place}
+use Rattle.txs_parse_expr.specs.Answer.{offset}
 use Rattle.txs_parse_expr.specs.declared.sign.Strength.{Strength}
 use Rattle.txs_parse_expr.specs.declared.sign.Strength.TheVariants as strength
 use Rattle.txs_syntax.specs.Grammar.{Tokens, Signs, or_signs, and_signs, compare_signs, join_signs, sum_signs, product_signs}
@@ -34,14 +34,8 @@ table strength.Join = join_signs
 table strength.Sum = sum_signs
 table strength.Product = product_signs
 
--- with these before it
-abbrev pub with_front : {A : Type 0} → List A → Outcome (List A) → Outcome (List A)
-with_front front (ok xs r) = ok (front ++ xs) r
-with_front front (bad r) = bad r
-with_front front (deep r) = deep r
-
 -- the fault, in a text of so many bytes
 abbrev pub fault : ℕ → Tokens → Stop → ParseFault
-fault len ts (Unexpected k) = parse.Unexpected (place len (drop k ts))
-fault len ts (Deep k) = parse.Deep (place len (drop k ts))
+fault len ts (Unexpected k) = parse.Unexpected (offset len (drop k ts))
+fault len ts (Deep k) = parse.Deep (offset len (drop k ts))
 fault len ts NoMemory = parse.NoMemory

@@ -2,7 +2,7 @@ ghost use Rattle.std.specs.Prelude.{◌≡◌};
 ghost use Rattle.txs_parse_expr.specs.declared.fault.Stop.TheVariants as stop;
 ghost use Rattle.txs_parse_expr.specs.View.{fault};
 
-use crate::token::place_of;
+use crate::token::offset_of;
 use std::alloc::{AllocError, AllocFailed};
 use thiserror::Error;
 use txs_lexer::Token;
@@ -56,10 +56,10 @@ pub fn fault_of(tokens: &[Token], len: usize, stop: Stop) -> ParseFault
 {
     match stop {
         Stop::Unexpected(next) => ParseFault::Unexpected {
-            at: place_of(tokens, next, len),
+            at: offset_of(tokens, next, len),
         },
         Stop::Deep(token) => ParseFault::Deep {
-            at: place_of(tokens, token, len),
+            at: offset_of(tokens, token, len),
         },
         Stop::NoMemory => ParseFault::NoMemory,
     }

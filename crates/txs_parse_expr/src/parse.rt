@@ -146,9 +146,9 @@ fn un(alloc: Global, tokens: &[Token], at: usize, left: u32) -> Result<(Boxed<As
     }
     match minus_at(tokens, at) {
         None => prim(alloc, tokens, at, left),
-        Some(place) => {
+        Some(offset) => {
             let (a, next) = un(alloc, tokens, at + 1, left - 1)?;
-            Ok((negate(alloc, place, a)?, next))
+            Ok((negate(alloc, offset, a)?, next))
         }
     }
 }
@@ -194,10 +194,10 @@ fn bracket(
     tokens: &[Token],
     at: usize,
     left: u32,
-    place: usize,
+    offset: usize,
 ) -> Result<(Boxed<Ast>, usize), Stop>
     requires { 0 < left }
-    ensures value { Says tokens.now result (reader.group_at (readers (left - 1)) place (drop at tokens.now)) }
+    ensures value { Says tokens.now result (reader.group_at (readers (left - 1)) offset (drop at tokens.now)) }
     ensures forward { IfOk result (λ p. at < p.1) }
     ensures within { IfOk result (λ p. p.1 ≤ length tokens.now) }
 {
@@ -205,7 +205,7 @@ fn bracket(
     if !has_symbol(tokens, next, CLOSE) {
         return Err(Stop::Unexpected(next));
     }
-    Ok((group(alloc, place, e)?, next + 1))
+    Ok((group(alloc, offset, e)?, next + 1))
 }
 
 /// What follows IF.
@@ -215,10 +215,10 @@ fn choose(
     tokens: &[Token],
     at: usize,
     left: u32,
-    place: usize,
+    offset: usize,
 ) -> Result<(Boxed<Ast>, usize), Stop>
     requires { 0 < left }
-    ensures value { Says tokens.now result (reader.if_at (readers (left - 1)) place (drop at tokens.now)) }
+    ensures value { Says tokens.now result (reader.if_at (readers (left - 1)) offset (drop at tokens.now)) }
     ensures forward { IfOk result (λ p. at < p.1) }
     ensures within { IfOk result (λ p. p.1 ≤ length tokens.now) }
 {
@@ -234,7 +234,7 @@ fn choose(
     if !has_word(tokens, next, FI) {
         return Err(Stop::Unexpected(next));
     }
-    Ok((choice(alloc, place, c, a, b)?, next + 1))
+    Ok((choice(alloc, offset, c, a, b)?, next + 1))
 }
 
 /// A name or a call, after the name.
@@ -244,20 +244,20 @@ fn named(
     tokens: &[Token],
     at: usize,
     left: u32,
-    place: usize,
+    offset: usize,
     text: &Text,
 ) -> Result<(Boxed<Ast>, usize), Stop>
     requires room { 0 < left }
-    requires place { at ≤ length tokens.now }
-    ensures value { Says tokens.now result (reader.on (reader.is_symbol 36) (drop at tokens.now) (reader.call_at (readers (left - 1)) (record { at = place; text = text.now }))
-        (reader.ok (tree.Name (record { at = place; text = text.now })) (drop at tokens.now))) }
+    requires within_tokens { at ≤ length tokens.now }
+    ensures value { Says tokens.now result (reader.on (reader.is_symbol OPEN) (drop at tokens.now) (reader.call_at (readers (left - 1)) (record { at = offset; text = text.now }))
+        (reader.ok (tree.Name (record { at = offset; text = text.now })) (drop at tokens.now))) }
     ensures forward { IfOk result (λ p. at ≤ p.1) }
     ensures within { IfOk result (λ p. p.1 ≤ length tokens.now) }
 {
     if !has_symbol(tokens, at, OPEN) {
-        return Ok((variable(alloc, place, text)?, at));
+        return Ok((variable(alloc, offset, text)?, at));
     }
-    call(alloc, tokens, at + 1, left, place, text)
+    call(alloc, tokens, at + 1, left, offset, text)
 }
 
 /// A call, after its parenthesis.
@@ -267,11 +267,11 @@ fn call(
     tokens: &[Token],
     at: usize,
     left: u32,
-    place: usize,
+    offset: usize,
     text: &Text,
 ) -> Result<(Boxed<Ast>, usize), Stop>
     requires { 0 < left }
-    ensures value { Says tokens.now result (reader.call_at (readers (left - 1)) (record { at = place; text = text.now }) (drop at tokens.now)) }
+    ensures value { Says tokens.now result (reader.call_at (readers (left - 1)) (record { at = offset; text = text.now }) (drop at tokens.now)) }
     ensures forward { IfOk result (λ p. at < p.1) }
     ensures within { IfOk result (λ p. p.1 ≤ length tokens.now) }
 {
@@ -279,13 +279,13 @@ fn call(
         if left == 1 {
             return Err(Stop::Deep(at));
         }
-        return Ok((call_of(alloc, place, text, Items::new(alloc))?, at + 1));
+        return Ok((call_of(alloc, offset, text, Items::new(alloc))?, at + 1));
     }
     let (arguments, next) = arguments(alloc, tokens, at, left - 1)?;
     if !has_symbol(tokens, next, CLOSE) {
         return Err(Stop::Unexpected(next));
     }
-    Ok((call_of(alloc, place, text, arguments)?, next + 1))
+    Ok((call_of(alloc, offset, text, arguments)?, next + 1))
 }
 
 /// Expr { "," Expr }
@@ -319,10 +319,10 @@ fn lets(
     tokens: &[Token],
     at: usize,
     left: u32,
-    place: usize,
+    offset: usize,
 ) -> Result<(Boxed<Ast>, usize), Stop>
     requires { 0 < left }
-    ensures value { Says tokens.now result (reader.let_at (readers (left - 1)) place (drop at tokens.now)) }
+    ensures value { Says tokens.now result (reader.let_at (readers (left - 1)) offset (drop at tokens.now)) }
     ensures forward { IfOk result (λ p. at < p.1) }
     ensures within { IfOk result (λ p. p.1 ≤ length tokens.now) }
 {
@@ -334,7 +334,7 @@ fn lets(
     if !has_word(tokens, next, NI) {
         return Err(Stop::Unexpected(next));
     }
-    Ok((nest(alloc, place, list, e)?, next + 1))
+    Ok((nest(alloc, offset, list, e)?, next + 1))
 }
 
 /// Bind { ";" Bind }
@@ -392,18 +392,18 @@ fn bind_value(
     tokens: &[Token],
     at: usize,
     left: u32,
-    place: usize,
+    offset: usize,
     text: &Text,
 ) -> Result<((Name, Boxed<Ast>), usize), Stop>
     requires { at < length tokens.now }
-    ensures value { Says tokens.now result (reader.where_room (readers left).is_full (drop at tokens.now) (reader.value_at (readers left) (record { at = place; text = text.now }) (drop (at + 1) tokens.now))) }
+    ensures value { Says tokens.now result (reader.where_room (readers left).is_full (drop at tokens.now) (reader.value_at (readers left) (record { at = offset; text = text.now }) (drop (at + 1) tokens.now))) }
     ensures forward { IfOk result (λ p. at < p.1) }
     ensures within { IfOk result (λ p. p.1 ≤ length tokens.now) }
 {
     if left == 0 {
         return Err(Stop::Deep(at));
     }
-    value(alloc, tokens, at + 1, left, place, text)
+    value(alloc, tokens, at + 1, left, offset, text)
 }
 
 /// A bind, after its name.
@@ -413,10 +413,10 @@ fn value(
     tokens: &[Token],
     at: usize,
     left: u32,
-    place: usize,
+    offset: usize,
     text: &Text,
 ) -> Result<((Name, Boxed<Ast>), usize), Stop>
-    ensures value { Says tokens.now result (reader.value_at (readers left) (record { at = place; text = text.now }) (drop at tokens.now)) }
+    ensures value { Says tokens.now result (reader.value_at (readers left) (record { at = offset; text = text.now }) (drop at tokens.now)) }
     ensures forward { IfOk result (λ p. at < p.1) }
     ensures within { IfOk result (λ p. p.1 ≤ length tokens.now) }
 {
@@ -424,7 +424,7 @@ fn value(
         return Err(Stop::Unexpected(at));
     }
     let (e, next) = expr(alloc, tokens, at + 1, left)?;
-    let name = name_at(alloc, place, text)?;
+    let name = name_at(alloc, offset, text)?;
     Ok(((name, e), next))
 }
 

@@ -50,7 +50,7 @@ pub fn has_word(tokens: &[Token], at: usize, word: u32) -> bool
 
 /// The place of the minus that stands there.
 pub fn minus_at(tokens: &[Token], at: usize) -> Option<usize>
-    ensures value { result ≡ reader.at_token (reader.is_symbol 25) (drop at tokens.now) (λ c _. Some c.from) None }
+    ensures value { result ≡ reader.at_token (reader.is_symbol MINUS) (drop at tokens.now) (λ c _. Some c.from) None }
     ensures within { OnSome result (at < length tokens.now) }
 {
     match tokens.get(at) {
@@ -91,8 +91,8 @@ pub fn too_deep(tokens: &[Token], at: usize) -> Stop
 }
 
 /// The byte at which the token begins, or at which the text ends.
-pub fn place_of(tokens: &[Token], at: usize, len: usize) -> usize
-    ensures { result ≡ answer.place len (drop at tokens.now) }
+pub fn offset_of(tokens: &[Token], at: usize, len: usize) -> usize
+    ensures { result ≡ answer.offset len (drop at tokens.now) }
 {
     match tokens.get(at) {
         Some(token) => token.from,

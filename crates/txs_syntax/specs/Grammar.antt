@@ -3,6 +3,8 @@ use Rattle.std.specs.Prelude.{◌≡◌, ℕ, suc, cond, eqb, List, [], ◌∷�
 use Rattle.txs_lexer.specs.declared.token.Token.{Token}
 use Rattle.txs_lexer.specs.declared.token.Kind.{Kind}
 use Rattle.txs_lexer.specs.declared.token.Kind.TheVariants as kind
+use Rattle.txs_lexer.specs.declared.symbol.TheConstants.{EQUAL, DIFFERENT, AT_MOST, AT_LEAST, LESS, MORE, JOIN, PLUS, MINUS, TIMES, DIVIDE, REMAINDER, AND, OR, IS, OPEN, CLOSE, COMMA, SEMICOLON}
+use Rattle.txs_lexer.specs.declared.word.TheConstants.{IN, NI, LET, IF, THEN, ELSE, FI}
 use Rattle.txs_syntax.specs.declared.ast.Name.{Name}
 use Rattle.txs_syntax.specs.declared.ast.Op.{Op}
 use Rattle.txs_syntax.specs.declared.ast.Op.TheVariants as op
@@ -25,27 +27,27 @@ Signs = List (ℕ × Op)
 
 -- \/
 abbrev pub or_signs : Signs
-or_signs = (30, op.Or) ∷ []
+or_signs = (OR, op.Or) ∷ []
 
 -- /\
 abbrev pub and_signs : Signs
-and_signs = (29, op.And) ∷ []
+and_signs = (AND, op.And) ∷ []
 
 -- == <> < <= > >=
 abbrev pub compare_signs : Signs
-compare_signs = (17, op.Equal) ∷ (18, op.Different) ∷ (21, op.Less) ∷ (19, op.AtMost) ∷ (22, op.More) ∷ (20, op.AtLeast) ∷ []
+compare_signs = (EQUAL, op.Equal) ∷ (DIFFERENT, op.Different) ∷ (LESS, op.Less) ∷ (AT_MOST, op.AtMost) ∷ (MORE, op.More) ∷ (AT_LEAST, op.AtLeast) ∷ []
 
 -- ++
 abbrev pub join_signs : Signs
-join_signs = (23, op.Join) ∷ []
+join_signs = (JOIN, op.Join) ∷ []
 
 -- + -
 abbrev pub sum_signs : Signs
-sum_signs = (24, op.Plus) ∷ (25, op.Minus) ∷ []
+sum_signs = (PLUS, op.Plus) ∷ (MINUS, op.Minus) ∷ []
 
 -- * / %
 abbrev pub product_signs : Signs
-product_signs = (26, op.Times) ∷ (27, op.Divide) ∷ (28, op.Remainder) ∷ []
+product_signs = (TIMES, op.Times) ∷ (DIVIDE, op.Divide) ∷ (REMAINDER, op.Remainder) ∷ []
 
 abbrev pub look_up : Signs → ℕ → Option Op
 look_up [] s = None
@@ -117,7 +119,7 @@ mutual
     -- Prod = Un { ( "*" | "/" | "%" ) Un }
     products : {d k : ℕ} {a : Ast} {u : Marked} → Products d k a u → SpellsAt prod d a u
     -- Un = "-" Un | Prim
-    negated : {d : ℕ} {a : Ast} {u : Marked} (c : Token) → IsSymbol 25 c
+    negated : {d : ℕ} {a : Ast} {u : Marked} (c : Token) → IsSymbol MINUS c
         → SpellsAt un (suc d) a u → SpellsAt un d (tree.Negate c.from a) ((d, c) ∷ u)
     plain : {d : ℕ} {a : Ast} {u : Marked} → SpellsAt prim d a u → SpellsAt un d a u
     -- Prim = Number | Text | Name
@@ -125,19 +127,19 @@ mutual
     text : {d : ℕ} (c : Token) (s : List ℕ) → c.kind ≡ kind.Quoted s → SpellsAt prim d (tree.Text c.from s) ((d, c) ∷ [])
     name : {d : ℕ} (c : Token) (x : List ℕ) → c.kind ≡ kind.Name x → SpellsAt prim d (tree.Name (named c x)) ((d, c) ∷ [])
     --      | Name "(" [ Expr { "," Expr } ] ")"
-    call_none : {d : ℕ} (c o e : Token) (x : List ℕ) → c.kind ≡ kind.Name x → IsSymbol 36 o → IsSymbol 37 e
+    call_none : {d : ℕ} (c o e : Token) (x : List ℕ) → c.kind ≡ kind.Name x → IsSymbol OPEN o → IsSymbol CLOSE e
         → SpellsAt prim d (tree.Call (named c x) []) ((d, c) ∷ (d, o) ∷ (suc d, e) ∷ [])
-    call_some : {d : ℕ} {es : List Ast} {u : Marked} (c o e : Token) (x : List ℕ) → c.kind ≡ kind.Name x → IsSymbol 36 o → IsSymbol 37 e
+    call_some : {d : ℕ} {es : List Ast} {u : Marked} (c o e : Token) (x : List ℕ) → c.kind ≡ kind.Name x → IsSymbol OPEN o → IsSymbol CLOSE e
         → AllAt (suc d) es u → SpellsAt prim d (tree.Call (named c x) es) ((d, c) ∷ (d, o) ∷ (u ++ (suc d, e) ∷ []))
     --      | "(" Expr ")"
-    group : {d : ℕ} {a : Ast} {u : Marked} (o e : Token) → IsSymbol 36 o → IsSymbol 37 e
+    group : {d : ℕ} {a : Ast} {u : Marked} (o e : Token) → IsSymbol OPEN o → IsSymbol CLOSE e
         → SpellsAt expr (suc d) a u → SpellsAt prim d (tree.Group o.from a) ((d, o) ∷ (u ++ (suc d, e) ∷ []))
     --      | IF Expr THEN Expr ELSE Expr FI
-    choose : {d : ℕ} {p a b : Ast} {u v w : Marked} (i t l f : Token) → IsWord 35 i → IsWord 36 t → IsWord 37 l → IsWord 38 f
+    choose : {d : ℕ} {p a b : Ast} {u v w : Marked} (i t l f : Token) → IsWord IF i → IsWord THEN t → IsWord ELSE l → IsWord FI f
         → SpellsAt expr (suc d) p u → SpellsAt expr (suc d) a v → SpellsAt expr (suc d) b w
         → SpellsAt prim d (tree.If i.from p a b) ((d, i) ∷ (u ++ (suc d, t) ∷ (v ++ (suc d, l) ∷ (w ++ (suc d, f) ∷ []))))
     --      | LET Bind { ";" Bind } IN Expr NI
-    bind : {d : ℕ} {bs : List Bind} {e : Ast} {u v : Marked} (l i n : Token) → IsWord 34 l → IsWord 11 i → IsWord 32 n
+    bind : {d : ℕ} {bs : List Bind} {e : Ast} {u v : Marked} (l i n : Token) → IsWord LET l → IsWord IN i → IsWord NI n
         → BindsAt (suc d) bs u → SpellsAt expr (suc d) e v
         → SpellsAt prim d (bound l.from bs e) ((d, l) ∷ (u ++ (suc d, i) ∷ (v ++ (suc d, n) ∷ [])))
 
@@ -155,18 +157,18 @@ mutual
   -- Expr { "," Expr }
   pub data AllAt : ℕ → List Ast → Marked → Type 0 where
     last : {d : ℕ} {e : Ast} {u : Marked} → SpellsAt expr d e u → AllAt d (e ∷ []) u
-    more : {d : ℕ} {e : Ast} {es : List Ast} {u v : Marked} (c : Token) → IsSymbol 42 c
+    more : {d : ℕ} {e : Ast} {es : List Ast} {u v : Marked} (c : Token) → IsSymbol COMMA c
         → SpellsAt expr d e u → AllAt d es v → AllAt d (e ∷ es) (u ++ (d, c) ∷ v)
 
   -- Bind = Name "=" Expr
   pub data BindAt : ℕ → Bind → Marked → Type 0 where
-    one_bind : {d : ℕ} {e : Ast} {u : Marked} (c i : Token) (x : List ℕ) → c.kind ≡ kind.Name x → IsSymbol 31 i
+    one_bind : {d : ℕ} {e : Ast} {u : Marked} (c i : Token) (x : List ℕ) → c.kind ≡ kind.Name x → IsSymbol IS i
         → SpellsAt expr d e u → BindAt d (named c x, e) ((d, c) ∷ (d, i) ∷ u)
 
   -- Bind { ";" Bind }
   pub data BindsAt : ℕ → List Bind → Marked → Type 0 where
     last_bind : {d : ℕ} {b : Bind} {u : Marked} → BindAt d b u → BindsAt d (b ∷ []) u
-    more_binds : {d : ℕ} {b : Bind} {bs : List Bind} {u v : Marked} (c : Token) → IsSymbol 43 c
+    more_binds : {d : ℕ} {b : Bind} {bs : List Bind} {u v : Marked} (c : Token) → IsSymbol SEMICOLON c
         → BindAt d b u → BindsAt d bs v → BindsAt d (b ∷ bs) (u ++ (d, c) ∷ v)
 
 -- the tokens spell the expression

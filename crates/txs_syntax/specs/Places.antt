@@ -10,7 +10,7 @@ Begins p = (tree : Ast) × (more : Tokens) × Spells tree (p ++ more)
 
 -- p is the longest run from the front of the tokens with which the tokens of some expression begin, and rest is what follows
 pub record Longest (tokens p rest : Tokens) : Type 0 where
-  pub whole : tokens ≡ p ++ rest
+  pub split : tokens ≡ p ++ rest
   pub begins : Begins p
   pub no_longer : (c : Token) (more : Tokens) → rest ≡ c ∷ more → Begins (p ++ c ∷ []) → ⊥
 

@@ -116,18 +116,18 @@ last-past : (n : ℤ) (rest : List ℕ) → fits n ≡ false → None ≡ in_ran
 last-past n [] e = sym (ap (λ (t : Bool). cond t (Some (num n)) None) e)
 last-past n (b ∷ bs) e = refl
 
-whole-fits : (n : ℤ) (rest : List ℕ) (t : Bool) → fits n ≡ t → alone (cond t (Some (record { value = num n; rest = rest })) None) ≡ in_range (last_number (past_blanks rest) n)
-whole-fits n rest true e = last-number n (past_blanks rest) e
-whole-fits n rest false e = last-past n (past_blanks rest) e
+integer-fits : (n : ℤ) (rest : List ℕ) (t : Bool) → fits n ≡ t → alone (cond t (Some (record { value = num n; rest = rest })) None) ≡ in_range (last_number (past_blanks rest) n)
+integer-fits n rest true e = last-number n (past_blanks rest) e
+integer-fits n rest false e = last-past n (past_blanks rest) e
 
-whole-alone : (f : Option (Front ℤ)) → alone (then_front f (λ z rest. cond (fits z) (Some (record { value = num z; rest = rest })) None)) ≡ in_range (lone_number f)
-whole-alone None = refl
-whole-alone (Some f) = whole-fits f.value f.rest (fits f.value) refl
+integer-alone : (f : Option (Front ℤ)) → alone (then_front f (λ z rest. cond (fits z) (Some (record { value = num z; rest = rest })) None)) ≡ in_range (lone_number f)
+integer-alone None = refl
+integer-alone (Some f) = integer-fits f.value f.rest (fits f.value) refl
 
 -- an Int is read where the number that is spelled fits
-pub read_text-whole : (table : Table) (bs : List ℕ) → read_text table integer bs ≡ in_range (spelled_number bs)
+pub read_text-integer : (table : Table) (bs : List ℕ) → read_text table integer bs ≡ in_range (spelled_number bs)
 unfolding value_height_limit
-read_text-whole table bs = whole-alone (number_front (past_blanks bs))
+read_text-integer table bs = integer-alone (number_front (past_blanks bs))
 
 read-fits : {E : Type 0} (past : E) (m n : ℤ) (r : Result ℤ E) (t : Bool) → r ≡ cond t (Ok m) (Err past) → (r ≡ Ok n) ↔ (cond t (Some (num m)) None ≡ Some (num n))
 read-fits past m n r true e = ((λ h. cc), (λ h. cc))
@@ -138,6 +138,6 @@ read-is wrong past None r e n = ((λ h. absurd (cc)), (λ h. absurd (cc)))
 read-is wrong past (Some m) r e n = read-fits past m n r (fits m) e
 
 pub read_text-is : {E : Type 0} (wrong past : E) (table : Table) (bs : List ℕ) (r : Result ℤ E) (n : ℤ) → MatchOption (spelled_number bs) (r ≡ Err wrong) (λ m. r ≡ cond (fits m) (Ok m) (Err past)) → (r ≡ Ok n) ↔ (read_text table integer bs ≡ Some (num n))
-read_text-is wrong past table bs r n e = subst (λ (q : Option Value). (r ≡ Ok n) ↔ (q ≡ Some (num n))) (sym (read_text-whole table bs)) (read-is wrong past (spelled_number bs) r e n)
+read_text-is wrong past table bs r n e = subst (λ (q : Option Value). (r ≡ Ok n) ↔ (q ≡ Some (num n))) (sym (read_text-integer table bs)) (read-is wrong past (spelled_number bs) r e n)
 
 pub ruleset fronts = (number_run-length, take-number_run, drop-number_run)

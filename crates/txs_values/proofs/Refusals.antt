@@ -31,7 +31,7 @@ stopped-at s k n o e h = subst (λ x. Stopped x o) e h
 pub stop-within : (table : Table) (t : Ty) (bs : List ℕ) (k : Kind) (n : ℕ) → lone_read table t bs ≡ stop k n → n ≤ length bs
 stop-within table t bs k n e =
     let l = lone-left table t bs k n e in
-    let w : length bs ≡ length (l.used ++ l.rest) = ap length l.whole in
+    let w : length bs ≡ length (l.used ++ l.rest) = ap length l.split in
     let c = l.count in
     let a = length-append l.used l.rest in
     omega (arith, w, c, a)

@@ -126,8 +126,8 @@ made_from c (t ∷ ts) (suc k) name = made_from (c + count_of t.constructors) ts
 abbrev pub Reader : Type 0
 Reader = Ty → List ℕ → Option (Front Value)
 
-abbrev pub whole_front : List ℕ → Option (Front Value)
-whole_front bs = then_front (number_front bs) (λ z rest. cond (fits z) (Some (record { value = num z; rest = rest })) None)
+abbrev pub integer_front : List ℕ → Option (Front Value)
+integer_front bs = then_front (number_front bs) (λ z rest. cond (fits z) (Some (record { value = num z; rest = rest })) None)
 
 abbrev pub with_truth : Option Bool → List ℕ → Option (Front Value)
 with_truth None rest = None
@@ -156,7 +156,7 @@ with_made below (Some m) rest = fields_front below m.number m.fields rest
 
 -- one level of a value; `below` reads the level under it
 abbrev pub level_front : Table → Reader → Reader
-level_front table below integer bs = whole_front bs
+level_front table below integer bs = integer_front bs
 level_front table below truth bs = then_front (name_front bs) (λ name rest. with_truth (truth_named name) rest)
 level_front table below string bs = then_front (text_front bs) (λ t rest. Some (record { value = text t; rest = rest }))
 level_front table below (named k) bs = then_front (name_front bs) (λ name rest. with_made below (made_from 0 table k name) rest)

@@ -44,17 +44,6 @@ fn talks_to_a_system(rt: HostRuntime) -> Result<(), Fail> {
 }
 
 #[test]
-fn counts_a_refused_connection(rt: HostRuntime) -> Result<(), Fail> {
-    let listener = TcpListener::bind(&rt, ("127.0.0.1", 0))?;
-    let ends = at_port(rt.alloc(), false, listener.local_addr()?.port())?;
-    drop(listener);
-    let mut sut = TcpSut::new(rt.alloc(), &rt);
-    assert_eq!(rt; sut.dial(&ends), Err(Failed));
-    assert_eq!(rt; sut.faults, 1);
-    Ok(())
-}
-
-#[test]
 fn accepts_a_connection_at_each_end(rt: HostRuntime) -> Result<(), Fail> {
     let ends = at_port(rt.alloc(), true, 0)?;
     let listeners = bound(rt.alloc(), &rt, ends.list.as_slice())?;

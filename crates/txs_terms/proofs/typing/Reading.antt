@@ -4,7 +4,7 @@ use Rattle.std.proofs.Common.{◌≡◌, ℕ, zero, suc, ◌+◌, Bool, true, fa
 use Rattle.std.proofs.lemmas.Bool.{and_from}
 use Rattle.std.specs.Prelude.{bytes_eq, nat_le}
 use Rattle.txs_values.specs.Value.{Ty, integer, truth, string, named, Value, num, Values, no_value, Field, Constructor, TypeDef, Table, place_of, place_from, field_types, fits, fields_in, has_type, has_fields, HasType, size, value_size_limit, value_height_limit}
-use Rattle.txs_values.specs.Spelling.{Front, then_front, Made, made_in, made_from, count_of, Reader, whole_front, number_front, with_truth, truth_named, arguments_front, symbol_front, past_blanks, fields_front, with_made, level_front, value_front, name_front, text_front, last_value, alone, read_text}
+use Rattle.txs_values.specs.Spelling.{Front, then_front, Made, made_in, made_from, count_of, Reader, integer_front, number_front, with_truth, truth_named, arguments_front, symbol_front, past_blanks, fields_front, with_made, level_front, value_front, name_front, text_front, last_value, alone, read_text}
 use Rattle.txs_terms.proofs.typing.Numbers.{place_at, among_these, StandsAt, stands_first, stands_next, fields_same}
 
 -- ---- a constructor by its name
@@ -101,7 +101,7 @@ module _ (table : Table) where
   truth_fits None rest = tt
   truth_fits (Some b) rest = refl
 
-  integer_fits : (bs : List ℕ) → Fits (IsOf integer) (whole_front bs)
+  integer_fits : (bs : List ℕ) → Fits (IsOf integer) (integer_front bs)
   integer_fits bs = then_fits (λ _. Unit {0}) (IsOf integer) (number_front bs) _ (any_fits _) (λ z rest _. by z rest (fits z) refl)
     where
       by : (z : ℤ) (rest : List ℕ) (b : Bool) → fits z ≡ b → Fits (IsOf integer) (cond b (Some (record { value = num z; rest = rest })) None)

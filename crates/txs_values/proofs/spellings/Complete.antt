@@ -3,7 +3,7 @@ use Rattle.std.proofs.Common.{◌≡◌, ℕ, zero, suc, ◌≤◌, ℤ, true, f
 use Rattle.std.proofs.lemmas.Bool.{cond-true, and_parts}
 use Rattle.std.specs.Str.Parse.{signed_digits_value}
 use Rattle.txs_values.specs.Value.{Ty, truth, string, named, Value, num, bool, text, cons, Values, no_value, and_value, Field, Table, place_of, field_types, fits, height, heights, fields_in, HasType, has_type, has_fields}
-use Rattle.txs_values.specs.Spelling.{is_blank, is_name_byte, past_blanks, then_front, number_front, symbol_front, text_front, name_front, truth_named, made_from, Reader, whole_front, with_truth, arguments_front, fields_front, with_made, level_front, value_front}
+use Rattle.txs_values.specs.Spelling.{is_blank, is_name_byte, past_blanks, then_front, number_front, symbol_front, text_front, name_front, truth_named, made_from, Reader, integer_front, with_truth, arguments_front, fields_front, with_made, level_front, value_front}
 use Rattle.txs_values.specs.Spelled.{AreBlanks, AreDigits, IsSign, no_sign, minus_sign, Spells, a_number, a_true, a_false, a_text, a_constant, a_made, SpellsEach, the_last, one_more, IsName, IsNamed}
 use Rattle.txs_values.proofs.spellings.Bytes.{Stops, past_blanks-is, stops-blanks, letter-blank, digit-blank}
 use Rattle.txs_values.proofs.spellings.Fronts.{then_front-is, number_front-is, text_front-is, name_front-is}
@@ -100,7 +100,7 @@ module _ (table : Table) (is_named : IsNamed table) (left : ℕ) (below : Reader
       → level_front table below t (past_blanks (ws ++ rest)) ≡ Some (record { value = v; rest = rest })
   level-is (a_number bl sign d ds ab sg ad) rest ty low s =
       let z : ℤ = signed_digits_value 10 (sign ++ d ∷ ds) in
-      ap whole_front (token-is bl (sign ++ d ∷ ds) rest ab (number-stops sg d ds rest ad))
+      ap integer_front (token-is bl (sign ++ d ∷ ds) rest ab (number-stops sg d ds rest ad))
       ∙ then_front-is (number_front ((sign ++ d ∷ ds) ++ rest)) (λ z rest. cond (fits z) (Some (record { value = num z; rest = rest })) None) z rest
       (number_front-is sg d ds rest ad s)
       ∙ cond-true (fits z) (Some (record { value = num z; rest = rest })) None ty

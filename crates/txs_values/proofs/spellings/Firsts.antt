@@ -126,7 +126,7 @@ module _ (table : Table) (t : Ty) (readable : IsReadable table t) where
       where
         by : (z : Kind) → k ≡ z → (z ≡ Broken → ⊥) → Here table t z left.used left.rest → Applies table t (reason_of z) left.used left.rest
         by Wrong e u h = record {
-          unspelled = λ v s. no-end v n bs (stops ∙ ap (λ z. stop z n) e) (lone-ends table t readable.named v bs (subst (IsSpelling table t v) (sym left.whole) s));
+          unspelled = λ v s. no-end v n bs (stops ∙ ap (λ z. stop z n) e) (lone-ends table t readable.named v bs (subst (IsSpelling table t v) (sym left.split) s));
           begins = begins-here;
           longest = wrong-longest e;
         }
@@ -136,7 +136,7 @@ module _ (table : Table) (t : Ty) (readable : IsReadable table t) where
 
     place : length left.used ≡ length bs - n
     place =
-        let w : length bs ≡ length (left.used ++ left.rest) = ap length left.whole in
+        let w : length bs ≡ length (left.used ++ left.rest) = ap length left.split in
         let c = left.count in
         let a = length-append left.used left.rest in
         omega (arith, w, c, a)
@@ -154,7 +154,7 @@ module _ (table : Table) (t : Ty) (readable : IsReadable table t) where
     least wrong_form m c =
         let i = place in
         let j = c.3 in
-        let h = c.4.longest left.used left.rest (sym c.2 ∙ left.whole) begins-here in
+        let h = c.4.longest left.used left.rest (sym c.2 ∙ left.split) begins-here in
         omega (arith, i, j, h)
     least past_range m c =
         let i = place in
@@ -173,7 +173,7 @@ module _ (table : Table) (t : Ty) (readable : IsReadable table t) where
         let j = c.3 in
         let b = l.3 in
         let a = length-append left.used l.0 in
-        let h = c.4.longest (left.used ++ l.0) l.1 (sym c.2 ∙ left.whole ∙ ap (λ (x : List ℕ). left.used ++ x) l.2 ∙ sym (append_assoc left.used l.0 l.1)) l.4 in
+        let h = c.4.longest (left.used ++ l.0) l.1 (sym c.2 ∙ left.split ∙ ap (λ (x : List ℕ). left.used ++ x) l.2 ∙ sym (append_assoc left.used l.0 l.1)) l.4 in
         omega (arith, i, j, b, a, h)
 
     form-first : reason_of k ≢ wrong_form → IsCause table t bs wrong_form (length bs - n) → ⊥
@@ -187,7 +187,7 @@ module _ (table : Table) (t : Ty) (readable : IsReadable table t) where
 
     -- the stop is the first of what is wrong
     pub first-here : IsFirst table t bs (reason_of k) (length bs - n)
-    first-here = record { applies = (left.used, left.rest, left.whole, sym place, applies-here); first = least; form_first = form-first }
+    first-here = record { applies = (left.used, left.rest, left.split, sym place, applies-here); first = least; form_first = form-first }
 
   -- ---- only one is the first
 

@@ -14,7 +14,7 @@ head (b ∷ bs) = Some b
 -- what is read, and that the same is read before all that begins as what follows it
 pub record Got (N : Type 0) {A : Type 0} (f : List ℕ → Outcome A) (S : A → List ℕ → Type 0) (bs : List ℕ) (a : A) (r : List ℕ) : Type 0 where
   pub used : List ℕ
-  pub whole : bs ≡ used ++ r
+  pub split : bs ≡ used ++ r
   pub spelled : S a used
   pub local : N → (w : List ℕ) → head w ≡ head r → f (used ++ w) ≡ ok a w
 
@@ -22,7 +22,7 @@ pub record Got (N : Type 0) {A : Type 0} (f : List ℕ → Outcome A) (S : A →
 pub record Left (N : Type 0) {A : Type 0} (f : List ℕ → Outcome A) (H : Kind → List ℕ → List ℕ → Type 0) (bs : List ℕ) (k : Kind) (n : ℕ) : Type 0 where
   pub used : List ℕ
   pub rest : List ℕ
-  pub whole : bs ≡ used ++ rest
+  pub split : bs ≡ used ++ rest
   pub count : n ≡ length rest
   pub here : H k used rest
   pub local : N → k ≡ Wrong → (w : List ℕ) → head w ≡ head rest → f (used ++ w) ≡ stop Wrong (length w)
@@ -53,20 +53,20 @@ module _ (N : Type 0) {A B : Type 0} (f : List ℕ → Outcome A) (g : A → Lis
   then_found : (bs r : List ℕ) (a : A) (o : Outcome B) (x : Got N f S bs a r) → Found N (g a) (λ b v. T b (x.used ++ v)) (λ k v q. H k (x.used ++ v) q) r o → Found N both T H bs o
   then_found bs r a (ok b q) x y = record {
     used = x.used ++ y.used;
-    whole = x.whole ∙ ap (λ (v : List ℕ). x.used ++ v) y.whole ∙ sym (append_assoc x.used y.used q);
+    split = x.split ∙ ap (λ (v : List ℕ). x.used ++ v) y.split ∙ sym (append_assoc x.used y.used q);
     spelled = y.spelled;
     local = λ nn w h.
-        let k : head (y.used ++ w) ≡ head r = head-before y.used q w h ∙ ap head (sym y.whole) in
+        let k : head (y.used ++ w) ≡ head r = head-before y.used q w h ∙ ap head (sym y.split) in
         ap both (append_assoc x.used y.used w) ∙ ap (λ o. after o g) (x.local nn (y.used ++ w) k) ∙ y.local nn w h;
   }
   then_found bs r a (stop k n) x y = record {
     used = x.used ++ y.used;
     rest = y.rest;
-    whole = x.whole ∙ ap (λ (v : List ℕ). x.used ++ v) y.whole ∙ sym (append_assoc x.used y.used y.rest);
+    split = x.split ∙ ap (λ (v : List ℕ). x.used ++ v) y.split ∙ sym (append_assoc x.used y.used y.rest);
     count = y.count;
     here = y.here;
     local = λ nn e w h.
-        let k : head (y.used ++ w) ≡ head r = head-before y.used y.rest w h ∙ ap head (sym y.whole) in
+        let k : head (y.used ++ w) ≡ head r = head-before y.used y.rest w h ∙ ap head (sym y.split) in
         ap both (append_assoc x.used y.used w) ∙ ap (λ o. after o g) (x.local nn (y.used ++ w) k) ∙ y.local nn e w h;
   }
 
@@ -76,7 +76,7 @@ module _ (N : Type 0) {A B : Type 0} (f : List ℕ → Outcome A) (g : A → Lis
   after_found bs (stop k n) x second = record {
     used = x.used;
     rest = x.rest;
-    whole = x.whole;
+    split = x.split;
     count = x.count;
     here = x.here;
     local = λ nn e w h. ap (λ o. after o g) (x.local nn e w h);
@@ -89,11 +89,11 @@ module _ (N : Type 0) {A B : Type 0} (f : List ℕ → Outcome A) (g : A → Lis
 
 pub found-ok : (N : Type 0) {A : Type 0} (f : List ℕ → Outcome A) (S : A → List ℕ → Type 0) (H : Kind → List ℕ → List ℕ → Type 0) (bs : List ℕ) (a : A)
     → S a [] → ((w : List ℕ) → head w ≡ head bs → f w ≡ ok a w) → Found N f S H bs (ok a bs)
-found-ok N f S H bs a s l = record { used = []; whole = refl; spelled = s; local = λ _. l }
+found-ok N f S H bs a s l = record { used = []; split = refl; spelled = s; local = λ _. l }
 
 pub found-wrong : (N : Type 0) {A : Type 0} (f : List ℕ → Outcome A) (S : A → List ℕ → Type 0) (H : Kind → List ℕ → List ℕ → Type 0) (bs : List ℕ) (n : ℕ)
     → n ≡ length bs → H Wrong [] bs → ((w : List ℕ) → head w ≡ head bs → f w ≡ stop Wrong (length w)) → Found N f S H bs (stop Wrong n)
-found-wrong N f S H bs n e h l = record { used = []; rest = bs; whole = refl; count = e; here = h; local = λ _ _. l }
+found-wrong N f S H bs n e h l = record { used = []; rest = bs; split = refl; count = e; here = h; local = λ _ _. l }
 
 -- the end of the text
 pub head-none : (w : List ℕ) → head w ≡ None → w ≡ []
@@ -108,11 +108,11 @@ head-some (c ∷ w) b h = (w, (let e : c ≡ b = cc in ap (λ (x : ℕ). x ∷ w
 
 module _ (N : Type 0) {A : Type 0} (f go : List ℕ → Outcome A) (S : A → List ℕ → Type 0) (H : Kind → List ℕ → List ℕ → Type 0) (c : ℕ) (q : (w : List ℕ) → f (c ∷ w) ≡ go w) where
   pub found-taken : (bs : List ℕ) (o : Outcome A) → Found N go (λ a v. S a (c ∷ v)) (λ k v r. H k (c ∷ v) r) bs o → Found N f S H (c ∷ bs) o
-  found-taken bs (ok a r) x = record { used = c ∷ x.used; whole = ap (λ (v : List ℕ). c ∷ v) x.whole; spelled = x.spelled; local = λ nn w h. q (x.used ++ w) ∙ x.local nn w h }
+  found-taken bs (ok a r) x = record { used = c ∷ x.used; split = ap (λ (v : List ℕ). c ∷ v) x.split; spelled = x.spelled; local = λ nn w h. q (x.used ++ w) ∙ x.local nn w h }
   found-taken bs (stop k n) x = record {
     used = c ∷ x.used;
     rest = x.rest;
-    whole = ap (λ (v : List ℕ). c ∷ v) x.whole;
+    split = ap (λ (v : List ℕ). c ∷ v) x.split;
     count = x.count;
     here = x.here;
     local = λ nn e w h. q (x.used ++ w) ∙ x.local nn e w h;
@@ -122,9 +122,9 @@ module _ (N : Type 0) {A : Type 0} (f go : List ℕ → Outcome A) (S : A → Li
 
 module _ (N : Type 0) {A : Type 0} (front : List A) (f : List ℕ → Outcome (List A)) (S : List A → List ℕ → Type 0) (H : Kind → List ℕ → List ℕ → Type 0) where
   pub front-found : (bs : List ℕ) (o : Outcome (List A)) → Found N f (λ a v. S (front ++ a) v) H bs o → Found N (λ w. with_front front (f w)) S H bs (with_front front o)
-  front-found bs (ok a r) x = record { used = x.used; whole = x.whole; spelled = x.spelled; local = λ nn w h. ap (with_front front) (x.local nn w h) }
+  front-found bs (ok a r) x = record { used = x.used; split = x.split; spelled = x.spelled; local = λ nn w h. ap (with_front front) (x.local nn w h) }
   front-found bs (stop k n) x =
-      record { used = x.used; rest = x.rest; whole = x.whole; count = x.count; here = x.here; local = λ nn e w h. ap (with_front front) (x.local nn e w h) }
+      record { used = x.used; rest = x.rest; split = x.split; count = x.count; here = x.here; local = λ nn e w h. ap (with_front front) (x.local nn e w h) }
 
   pub sound_front : Sound N f (λ a v. S (front ++ a) v) H → Sound N (λ w. with_front front (f w)) S H
   sound_front s bs = front-found bs (f bs) (s bs)
@@ -134,8 +134,8 @@ module _ (N : Type 0) {A : Type 0} (front : List A) (f : List ℕ → Outcome (L
 module _ (N : Type 0) {A : Type 0} (f : List ℕ → Outcome A) (S T : A → List ℕ → Type 0) (H K : Kind → List ℕ → List ℕ → Type 0)
     (st : (a : A) (u : List ℕ) → S a u → T a u) (hk : (k : Kind) (u r : List ℕ) → H k u r → K k u r) where
   pub found-map : (bs : List ℕ) (o : Outcome A) → Found N f S H bs o → Found N f T K bs o
-  found-map bs (ok a r) x = record { used = x.used; whole = x.whole; spelled = st a x.used x.spelled; local = x.local }
-  found-map bs (stop k n) x = record { used = x.used; rest = x.rest; whole = x.whole; count = x.count; here = hk k x.used x.rest x.here; local = x.local }
+  found-map bs (ok a r) x = record { used = x.used; split = x.split; spelled = st a x.used x.spelled; local = x.local }
+  found-map bs (stop k n) x = record { used = x.used; rest = x.rest; split = x.split; count = x.count; here = hk k x.used x.rest x.here; local = x.local }
 
   pub sound_map : Sound N f S H → Sound N f T K
   sound_map s bs = found-map bs (f bs) (s bs)
@@ -158,17 +158,17 @@ module _ (N : Type 0) {A : Type 0} (f : List ℕ → Outcome A) (T : A → List 
   blank_found : (o : Outcome A) → Found N f (λ a v. T a (ws ++ v)) (λ k v r. H k (ws ++ v) r) bs o → Found N (λ w. f (past_blanks w)) T H (ws ++ bs) o
   blank_found (ok a r) x = record {
     used = ws ++ x.used;
-    whole = ap (λ (v : List ℕ). ws ++ v) x.whole ∙ sym (append_assoc ws x.used r);
+    split = ap (λ (v : List ℕ). ws ++ v) x.split ∙ sym (append_assoc ws x.used r);
     spelled = x.spelled;
-    local = λ nn w h. ap f (again x.used r w x.whole h) ∙ x.local nn w h;
+    local = λ nn w h. ap f (again x.used r w x.split h) ∙ x.local nn w h;
   }
   blank_found (stop k n) x = record {
     used = ws ++ x.used;
     rest = x.rest;
-    whole = ap (λ (v : List ℕ). ws ++ v) x.whole ∙ sym (append_assoc ws x.used x.rest);
+    split = ap (λ (v : List ℕ). ws ++ v) x.split ∙ sym (append_assoc ws x.used x.rest);
     count = x.count;
     here = x.here;
-    local = λ nn e w h. ap f (again x.used x.rest w x.whole h) ∙ x.local nn e w h;
+    local = λ nn e w h. ap f (again x.used x.rest w x.split h) ∙ x.local nn e w h;
   }
 
 pub sound_blanks : (N : Type 0) {A : Type 0} (f : List ℕ → Outcome A) (T : A → List ℕ → Type 0) (H : Kind → List ℕ → List ℕ → Type 0)

@@ -57,7 +57,7 @@ module _ (N : Type 0) where
       let n = name-front (codes "True") bs r e in
       record {
         used = codes "True";
-        whole = n.0;
+        split = n.0;
         spelled = inl (refl, refl);
         local = λ _ w h.
             ap (λ o. either (after o (λ _ r. ok (bool true) r)) (after (name_read (codes "False") (codes "True" ++ w)) (λ _ r. ok (bool false) r))) (name-is (codes "True") w (goes-head w r h ∙ n.1));
@@ -66,7 +66,7 @@ module _ (N : Type 0) where
       let n = name-front (codes "False") bs r f in
       record {
         used = codes "False";
-        whole = n.0;
+        split = n.0;
         spelled = inr (refl, refl);
         local = λ _ w h.
             ap (λ o. either (stop Wrong (length (codes "False" ++ w))) (after o (λ _ r. ok (bool false) r))) (name-is (codes "False") w (goes-head w r h ∙ n.1));
@@ -96,16 +96,16 @@ module _ (N : Type 0) (H : Kind → List ℕ → List ℕ → Type 0) (wrong : (
       → Found N text_read IsQuoted H bs (cond t (ok (text a) end) (stop Broken (length bs)))
   text_end bs rest e a end g q true u = record {
     used = 34 ∷ g.used;
-    whole = e ∙ ap (λ (l : List ℕ). 34 ∷ l) g.whole;
+    split = e ∙ ap (λ (l : List ℕ). 34 ∷ l) g.split;
     spelled = (a, g.spelled.0, refl, g.spelled.2, ap (λ (l : List ℕ). 34 ∷ l) g.spelled.1);
     local = λ nn w h. ap (λ o. after o (λ t end. cond (is_utf8 t) (ok (text t) end) (stop Broken (length (34 ∷ (g.used ++ w)))))) (g.local nn w h) ∙ cond-true (is_utf8 a) (ok (text a) w) (stop Broken (length (34 ∷ (g.used ++ w)))) u;
   }
   text_end bs rest e a end g q false u = record {
     used = [];
     rest = bs;
-    whole = refl;
+    split = refl;
     count = refl;
-    here = broken bs (g.spelled.0, a, end, e ∙ ap (λ (l : List ℕ). 34 ∷ l) (g.whole ∙ ap (λ (l : List ℕ). l ++ end) g.spelled.1 ∙ append_assoc g.spelled.0 (34 ∷ []) end), g.spelled.2, u);
+    here = broken bs (g.spelled.0, a, end, e ∙ ap (λ (l : List ℕ). 34 ∷ l) (g.split ∙ ap (λ (l : List ℕ). l ++ end) g.spelled.1 ∙ append_assoc g.spelled.0 (34 ∷ []) end), g.spelled.2, u);
     local = λ _ k w h. absurd (cc);
   }
 
@@ -115,7 +115,7 @@ module _ (N : Type 0) (H : Kind → List ℕ → List ℕ → Type 0) (wrong : (
   text_behind rest (stop k n) q g = subst (λ z. Left N text_read H (34 ∷ rest) z n) (sym g.here.0) (record {
     used = 34 ∷ g.used;
     rest = g.rest;
-    whole = ap (λ (l : List ℕ). 34 ∷ l) g.whole;
+    split = ap (λ (l : List ℕ). 34 ∷ l) g.split;
     count = g.count;
     here = wrong (34 ∷ g.used) g.rest (inr (g.used, g.here.1, g.here.2, refl, g.here.3));
     local = λ nn e w h. ap (λ o. after o (λ t end. cond (is_utf8 t) (ok (text t) end) (stop Broken (length (34 ∷ (g.used ++ w)))))) (g.local nn g.here.0 w h);

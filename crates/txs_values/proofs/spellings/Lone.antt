@@ -35,7 +35,7 @@ whole-from table t v u bl g ab =
 ended-sound : (table : Table) (t : Ty) (v : Value) (u : List ℕ) → Good table levels_below t v u → (bl : List ℕ) → AreBlanks bl
     → Sound (IsReadable table t) (ended v) (λ x w. Whole table t x (u ++ (bl ++ w))) (λ k w r. Here table t k (u ++ (bl ++ w)) r)
 ended-sound table t v u g bl ab [] =
-    record { used = []; whole = refl; spelled = subst (λ (l : List ℕ). Whole table t v (u ++ l)) (sym (append-nil bl)) (whole-from table t v u bl g ab); local = λ _ w h. by w h }
+    record { used = []; split = refl; spelled = subst (λ (l : List ℕ). Whole table t v (u ++ l)) (sym (append-nil bl)) (whole-from table t v u bl g ab); local = λ _ w h. by w h }
   where
     by : (w : List ℕ) → head w ≡ head [] → ended v w ≡ ok v w
     by [] h = refl
@@ -69,12 +69,12 @@ pub lone-read : (table : Table) (t : Ty) (bs r : List ℕ) (v : Value) → lone_
 lone-read table t bs r v e small =
     let g : Got (IsReadable table t) (lone_read table t) (Whole table t) bs v [] = subst (λ (o : Outcome Value). Found (IsReadable table t) (lone_read table t) (Whole table t) (Here table t) bs o) e (lone-sound table t bs) in
     let w = g.spelled in
-    (subst (IsSpelling table t v) (sym (g.whole ∙ append-nil g.used)) w.spelling, record { typed = w.typed; small = small; low = w.low })
+    (subst (IsSpelling table t v) (sym (g.split ∙ append-nil g.used)) w.spelling, record { typed = w.typed; small = small; low = w.low })
 
 pub lone-spelled : (table : Table) (t : Ty) (bs : List ℕ) (v : Value) → lone_read table t bs ≡ ok v [] → IsSpelling table t v bs
 lone-spelled table t bs v e =
     let g : Got (IsReadable table t) (lone_read table t) (Whole table t) bs v [] = subst (λ (o : Outcome Value). Found (IsReadable table t) (lone_read table t) (Whole table t) (Here table t) bs o) e (lone-sound table t bs) in
-    subst (IsSpelling table t v) (sym (g.whole ∙ append-nil g.used)) g.spelled.spelling
+    subst (IsSpelling table t v) (sym (g.split ∙ append-nil g.used)) g.spelled.spelling
 
 -- ---- a stop
 
@@ -84,7 +84,7 @@ lone-left table t bs k n e = subst (λ (o : Outcome Value). Found (IsReadable ta
 pub lone-unbroken : (table : Table) (t : Ty) (bs : List ℕ) (k : Kind) (n : ℕ) → lone_read table t bs ≡ stop k n → IsUtf8 bs → k ≡ Broken → ⊥
 lone-unbroken table t bs k n e u b =
     let l = lone-left table t bs Broken n (e ∙ ap (λ z. stop z n) b) in
-    unbroken l.used l.rest (subst (λ (x : List ℕ). IsUtf8 x) l.whole u) l.here
+    unbroken l.used l.rest (subst (λ (x : List ℕ). IsUtf8 x) l.split u) l.here
 
 -- no spelling of an allowed value is stopped at
 pub lone-allowed : (table : Table) (t : Ty) → IsNamed table → (bs : List ℕ) (k : Kind) (n : ℕ) → lone_read table t bs ≡ stop k n → IsUtf8 bs → (v : Value) → IsSpelling table t v bs → IsAllowed table t v → ⊥

@@ -231,11 +231,11 @@ module _ (N : Type 0) {A : Type 0} (f g : List ℕ → Outcome A) (H : Kind → 
   second-further l =
       let c = x.count in
       let d = y.count in
-      let p = further x.used x.rest y.used y.rest (sym x.whole ∙ y.whole) (omega (arith, l, c, d)) in
+      let p = further x.used x.rest y.used y.rest (sym x.split ∙ y.split) (omega (arith, l, c, d)) in
       record {
         used = y.used;
         rest = y.rest;
-        whole = y.whole;
+        split = y.split;
         count = omega (arith, l, d);
         here = y.here;
         local = λ nn e w h.
@@ -249,11 +249,11 @@ module _ (N : Type 0) {A : Type 0} (f g : List ℕ → Outcome A) (H : Kind → 
   first-further l =
       let c = x.count in
       let d = y.count in
-      let p = further y.used y.rest x.used x.rest (sym y.whole ∙ x.whole) (omega (arith, l, c, d)) in
+      let p = further y.used y.rest x.used x.rest (sym y.split ∙ x.split) (omega (arith, l, c, d)) in
       record {
         used = x.used;
         rest = x.rest;
-        whole = x.whole;
+        split = x.split;
         count = omega (arith, l, c);
         here = x.here;
         local = λ nn e w h.
@@ -268,13 +268,13 @@ module _ (N : Type 0) {A : Type 0} (f g : List ℕ → Outcome A) (H : Kind → 
 
 pub left-map : (N : Type 0) {A : Type 0} (f : List ℕ → Outcome A) (H K : Kind → List ℕ → List ℕ → Type 0) → ((k : Kind) (u r : List ℕ) → H k u r → K k u r)
     → (bs : List ℕ) (k : Kind) (n : ℕ) → Left N f H bs k n → Left N f K bs k n
-left-map N f H K h bs k n x = record { used = x.used; rest = x.rest; whole = x.whole; count = x.count; here = h k x.used x.rest x.here; local = x.local }
+left-map N f H K h bs k n x = record { used = x.used; rest = x.rest; split = x.split; count = x.count; here = h k x.used x.rest x.here; local = x.local }
 
 pub left-at : (N : Type 0) {A : Type 0} (f : List ℕ → Outcome A) (H K : Kind → List ℕ → List ℕ → Type 0) (bs : List ℕ) (k : Kind) (n : ℕ) → ((u r : List ℕ) → H k u r → K k u r) → Left N f H bs k n → Left N f K bs k n
-left-at N f H K bs k n h x = record { used = x.used; rest = x.rest; whole = x.whole; count = x.count; here = h x.used x.rest x.here; local = x.local }
+left-at N f H K bs k n h x = record { used = x.used; rest = x.rest; split = x.split; count = x.count; here = h x.used x.rest x.here; local = x.local }
 
 pub left-after : (N : Type 0) {A B : Type 0} (f : List ℕ → Outcome A) (go : A → List ℕ → Outcome B) (H : Kind → List ℕ → List ℕ → Type 0) (bs : List ℕ) (k : Kind) (n : ℕ) → Left N f H bs k n → Left N (λ w. after (f w) go) H bs k n
-left-after N f go H bs k n x = record { used = x.used; rest = x.rest; whole = x.whole; count = x.count; here = x.here; local = λ nn e w h. ap (λ o. after o go) (x.local nn e w h) }
+left-after N f go H bs k n x = record { used = x.used; rest = x.rest; split = x.split; count = x.count; here = x.here; local = λ nn e w h. ap (λ o. after o go) (x.local nn e w h) }
 
 -- nothing yet, or a name of these begins so
 abbrev pub BeginsAmong : ℕ → List Constructor → Kind → List ℕ → List ℕ → Type 0
@@ -312,14 +312,14 @@ module _ (N : Type 0) (j : ℕ) where
   among-left : (n : ℕ) (xs : List Constructor) (bs : List ℕ) (k : Kind) (i : ℕ) → made_among n xs bs ≡ stop k i → LeftAmong n xs bs k i
   among-left n [] bs k i h = (
     sym (stop-kind h),
-    subst (λ z. Left N (made_among n []) (BeginsAmong j []) bs Wrong z) (stop-count h) (record { used = []; rest = bs; whole = refl; count = refl; here = inl refl; local = λ _ _ w e. refl }),
+    subst (λ z. Left N (made_among n []) (BeginsAmong j []) bs Wrong z) (stop-count h) (record { used = []; rest = bs; split = refl; count = refl; here = inl refl; local = λ _ _ w e. refl }),
   )
   among-left n (x ∷ xs) bs k i h = among-step-left n x xs bs (name_read x.name bs) (made_among (suc n) xs bs) refl refl (λ q v e. among-left (suc n) xs bs q v e) k i h
 
 table-left : (N : Type 0) (n j : ℕ) (table : Table) (k : ℕ) (bs : List ℕ) (q : Kind) (i : ℕ) → made_read n table k bs ≡ stop q i → (q ≡ Wrong) × Left N (made_read n table k) (BeginsTable j table k) bs Wrong i
 table-left N n j [] k bs q i h = (
   sym (stop-kind h),
-  subst (λ z. Left N (made_read n [] k) (BeginsTable j [] k) bs Wrong z) (stop-count h) (record { used = []; rest = bs; whole = refl; count = refl; here = inl refl; local = λ _ _ w e. refl }),
+  subst (λ z. Left N (made_read n [] k) (BeginsTable j [] k) bs Wrong z) (stop-count h) (record { used = []; rest = bs; split = refl; count = refl; here = inl refl; local = λ _ _ w e. refl }),
 )
 table-left N n j (t ∷ ts) zero bs q i h =
     let s = among-left N j n t.constructors bs q i h in
@@ -362,7 +362,7 @@ module _ (N : Type 0) (table : Table) (named : N → IsNamed table) (k : ℕ) wh
   made_outcome : (bs : List ℕ) (o : Outcome Made) → made_read 0 table k bs ≡ o → Found N (made_read 0 table k) (IsMade table k) (BeginsMade table k) bs o
   made_outcome bs (ok m r) e =
       let p = made-placed table k bs r m e in
-      record { used = p.0; whole = p.1; spelled = p.3; local = λ nn w h. made-is table (named nn) m.number k p.0 m.fields w p.3.placed (goes-head w r h ∙ p.2) }
+      record { used = p.0; split = p.1; spelled = p.3; local = λ nn w h. made-is table (named nn) m.number k p.0 m.fields w p.3.placed (goes-head w r h ∙ p.2) }
   made_outcome bs (stop q i) e =
       let s = table-left N 0 0 table k bs q i e in
       let d : 0 + k ≡ k = omega arith in

@@ -168,9 +168,9 @@ module _ (table : Table) (t : Ty) (is_named : IsNamed table) where
   digit-stops [] s = tt
   digit-stops (b ∷ l) s = s
 
-  whole-read : (left : ℕ) (bs : List ℕ) → value_read table left integer bs ≡ number_read (past_blanks bs)
-  whole-read zero bs = refl
-  whole-read (suc left) bs = refl
+  integer-read : (left : ℕ) (bs : List ℕ) → value_read table left integer bs ≡ number_read (past_blanks bs)
+  integer-read zero bs = refl
+  integer-read (suc left) bs = refl
 
   shorter : (a b : List ℕ) → length b ≤ length (a ++ b)
   shorter a b = let n = length-append a b in omega (arith, n)
@@ -187,7 +187,7 @@ module _ (table : Table) (t : Ty) (is_named : IsNamed table) where
       (λ left _. (
         Past,
         length (run ++ h.more),
-        whole-read left (h.blanks ++ (run ++ h.more)) ∙ ap number_read (ap past_blanks (sym (append_assoc h.blanks run h.more)) ∙ token-is h.blanks run h.more h.are_blanks (number-stops h.is_sign h.first h.digits h.more h.are_digits))
+        integer-read left (h.blanks ++ (run ++ h.more)) ∙ ap number_read (ap past_blanks (sym (append_assoc h.blanks run h.more)) ∙ token-is h.blanks run h.more h.are_blanks (number-stops h.is_sign h.first h.digits h.more h.are_digits))
             ∙ number-by (run ++ h.more) run h.more s.2 s.0 s.1 ∙ cond-false (fits (signed_digits_value 10 run)) (ok (num (signed_digits_value 10 run)) h.more) (stop Past (length (run ++ h.more))) h.is_past,
         omega (arith, l),
       ))

@@ -2,7 +2,7 @@
 use Rattle.std.proofs.Common.{◌≡◌, ℕ, zero, suc, ◌≤◌, ℤ, Bool, true, false, cond, ◌⊎◌, inl, inr, eq-eqb, List, [], ◌∷◌, ◌++◌, Option, Some, None, codes, refl, sym, ap, ◌∙◌, subst, append_assoc, append-nil, arith}
 use Rattle.std.proofs.lemmas.Bool.{and_from}
 use Rattle.txs_values.specs.Value.{Ty, integer, truth, string, named, Value, num, bool, text, cons, Values, no_value, and_value, Field, Table, place_of, field_types, fits, height, heights, fields_in, HasType, has_fields}
-use Rattle.txs_values.specs.Spelling.{past_blanks, Front, then_front, number_front, symbol_front, text_front, name_front, truth_named, Made, made_from, Reader, whole_front, with_truth, arguments_front, fields_front, with_made, level_front, value_front}
+use Rattle.txs_values.specs.Spelling.{past_blanks, Front, then_front, number_front, symbol_front, text_front, name_front, truth_named, Made, made_from, Reader, integer_front, with_truth, arguments_front, fields_front, with_made, level_front, value_front}
 use Rattle.txs_values.specs.Spelled.{AreBlanks, Spells, a_number, a_true, a_false, a_text, a_constant, a_made, SpellsEach, the_last, one_more}
 use Rattle.txs_values.proofs.spellings.Bytes.{blanks-parts}
 use Rattle.txs_values.proofs.spellings.Fronts.{same_some, then_front-some, symbol-parts, Number, number-parts, text-parts, name-parts, truth-named}
@@ -143,9 +143,9 @@ module _ (table : Table) (left : ℕ) (below : Reader) (sound : Sound table left
           })
 
   -- one level
-  whole-if : (bs : List ℕ) (g : Front ℤ) (r : Front Value) → Number (past_blanks bs) g → (t : Bool) → fits g.value ≡ t
+  integer-if : (bs : List ℕ) (g : Front ℤ) (r : Front Value) → Number (past_blanks bs) g → (t : Bool) → fits g.value ≡ t
       → cond t (Some (record { value = num g.value; rest = g.rest })) None ≡ Some r → Read table (suc left) integer bs r
-  whole-if bs g r n true e h =
+  integer-if bs g r n true e h =
       let b = behind-blanks bs (n.sign ++ n.first ∷ n.digits) g.rest n.parts in
       subst (Read table (suc left) integer bs) (same_some h) (record {
         spelled = b.blanks ++ (n.sign ++ n.first ∷ n.digits);
@@ -155,12 +155,12 @@ module _ (table : Table) (left : ℕ) (below : Reader) (sound : Sound table left
         typed = e;
         low = omega arith;
       })
-  whole-if bs g r n false e h = absurd (cc)
+  integer-if bs g r n false e h = absurd (cc)
 
-  whole-read : (bs : List ℕ) (r : Front Value) → whole_front (past_blanks bs) ≡ Some r → Read table (suc left) integer bs r
-  whole-read bs r h =
+  integer-read : (bs : List ℕ) (r : Front Value) → integer_front (past_blanks bs) ≡ Some r → Read table (suc left) integer bs r
+  integer-read bs r h =
       let p = then_front-some (number_front (past_blanks bs)) (λ z rest. cond (fits z) (Some (record { value = num z; rest = rest })) None) r h in
-      whole-if bs p.0 r (number-parts (past_blanks bs) p.0 p.1) (fits p.0.value) refl p.2
+      integer-if bs p.0 r (number-parts (past_blanks bs) p.0 p.1) (fits p.0.value) refl p.2
 
   truth-is : (bs : List ℕ) (g : Front (List ℕ)) (x : Bool) → past_blanks bs ≡ g.value ++ g.rest
       → ((x ≡ true) × (g.value ≡ codes "True")) ⊎ ((x ≡ false) × (g.value ≡ codes "False"))
@@ -232,7 +232,7 @@ module _ (table : Table) (left : ℕ) (below : Reader) (sound : Sound table left
       made-if bs k p.0 r (name-parts (past_blanks bs) p.0 p.1) (made_from 0 table k p.0.value) refl p.2
 
   level-read : (t : Ty) (bs : List ℕ) (r : Front Value) → level_front table below t (past_blanks bs) ≡ Some r → Read table (suc left) t bs r
-  level-read integer bs r h = whole-read bs r h
+  level-read integer bs r h = integer-read bs r h
   level-read truth bs r h = truth-read bs r h
   level-read string bs r h = text-read bs r h
   level-read (named k) bs r h = made-read bs k r h

@@ -12,7 +12,7 @@ use Rattle.txs_values.specs.Spelled.{AreBlanks, IsSign, Quotes, nothing, Spells,
 use Rattle.txs_values.specs.Faults.{HaveValues, NoDigit, IsReadable, Leads, no_more, Stands, as_argument}
 use Rattle.txs_values.specs.Reading.{ok, stop, after, with_front, symbol_here, symbol, number_read, truth_read, text_read, made_read, Reader, mark_behind, arguments_read, full_read, enclosed_read, fields_read, level_read, value_read}
 use Rattle.txs_values.proofs.spellings.Found.{Left, Sound, head-none, head-some, found-ok, found-wrong, sound_after, sound_front, sound_map, sound_blanks}
-use Rattle.txs_values.proofs.spellings.Tokens.{sound_symbol_here, IsWhole, sound_number, IsBroken}
+use Rattle.txs_values.proofs.spellings.Tokens.{sound_symbol_here, IsInteger, sound_number, IsBroken}
 use Rattle.txs_values.proofs.spellings.Names.{IsMade, BeginsMade, sound_made}
 use Rattle.txs_values.proofs.spellings.Starts.{BeginsIn, begins-front, leads-snoc, rest-behind, made-begins, have-behind, stands-valued, blanks-begin, name-begins, open-begins}
 use Rattle.txs_values.proofs.spellings.Levels.{Here, Good, GoodEach, GoodArguments, IsTruth, BeginsTruth, sound_truth, IsQuoted, sound_text, typed-cons, same-place, begun, SoundBelow}
@@ -27,14 +27,14 @@ module _ (table : Table) (t : Ty) (left : ℕ) (front : List ℕ) (level : ℕ) 
   number-begins : (u : List ℕ) → IsSign u → BeginsIn table integer (ws ++ u)
   number-begins u s = (num (signed_digits_value 10 (u ++ 48 ∷ [])), 48 ∷ [], subst (Spells table integer (num (signed_digits_value 10 (u ++ 48 ∷ [])))) (sym (append_assoc ws u (48 ∷ []))) (a_number ws u 48 [] ab s (refl, tt)))
 
-  number-good : (v : Value) (u : List ℕ) → IsWhole v u → Good table left integer v (ws ++ u)
+  number-good : (v : Value) (u : List ℕ) → IsInteger v u → Good table left integer v (ws ++ u)
   number-good v u w =
       subst (λ (l : List ℕ). Good table left integer v (ws ++ l)) (sym w.parts) (subst (λ x. Good table left integer x (ws ++ (w.sign ++ w.first ∷ w.digits))) (sym w.value)
       (record { spells = a_number ws w.sign w.first w.digits ab w.is_sign w.are_digits; typed = w.in_range; low = omega arith }))
 
-  pub whole-sound : Stands table t front level integer → Sound (IsReadable table t) number_read (λ v w. Good table left integer v (ws ++ w)) (λ k w r. Here table t k (front ++ (ws ++ w)) r)
-  whole-sound st =
-      sound_map (IsReadable table t) number_read IsWhole (λ v w. Good table left integer v (ws ++ w)) (λ k w r. Here table t k (front ++ (ws ++ w)) r) (λ k w r. Here table t k (front ++ (ws ++ w)) r) number-good (λ k u r h. h)
+  pub integer-sound : Stands table t front level integer → Sound (IsReadable table t) number_read (λ v w. Good table left integer v (ws ++ w)) (λ k w r. Here table t k (front ++ (ws ++ w)) r)
+  integer-sound st =
+      sound_map (IsReadable table t) number_read IsInteger (λ v w. Good table left integer v (ws ++ w)) (λ k w r. Here table t k (front ++ (ws ++ w)) r) (λ k w r. Here table t k (front ++ (ws ++ w)) r) number-good (λ k u r h. h)
       (sound_number (IsReadable table t) (λ k w r. Here table t k (front ++ (ws ++ w)) r)
       (λ u r s. begun table t st (ws ++ u) r (λ _. number-begins u s))
       (λ r p. record {
@@ -221,7 +221,7 @@ module _ (table : Table) (t : Ty) (left level : ℕ) (front ws : List ℕ) (c k 
       by true h = record {
         used = [];
         rest = b ∷ bs;
-        whole = refl;
+        split = refl;
         count = refl;
         here = record {
           front = front;
@@ -245,7 +245,7 @@ module _ (table : Table) (t : Ty) (left level : ℕ) (front ws : List ℕ) (c k 
       by false h = record {
         used = [];
         rest = b ∷ bs;
-        whole = refl;
+        split = refl;
         count = refl;
         here = same-place Wrong table t (behind bl) (behind (bl ++ [])) (b ∷ bs) (ap behind (sym (append-nil bl))) (open-wrong f fs e bl (b ∷ bs) al);
         local = λ _ z w g. other w (head-some w b g);
@@ -299,7 +299,7 @@ module _ (table : Table) (t : Ty) (left level : ℕ) (front ws : List ℕ) (c k 
 module _ (table : Table) (t : Ty) (left level : ℕ) (front ws : List ℕ) (ab : AreBlanks ws) where
   pub level-sound : (below : Option Reader) → IsBelow table t below left level → (u : Ty) → Stands table t front level u
       → Sound (IsReadable table t) (level_read table below u) (λ v w. Good table left u v (ws ++ w)) (λ q w r. Here table t q (front ++ (ws ++ w)) r)
-  level-sound below ib integer st = whole-sound table t left front level ws ab st
+  level-sound below ib integer st = integer-sound table t left front level ws ab st
   level-sound below ib truth st = truth-sound table t left front level ws ab st
   level-sound below ib string st = text-sound table t left front level ws ab st
   level-sound below ib (named k) st =

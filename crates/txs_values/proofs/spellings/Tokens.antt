@@ -21,7 +21,7 @@ sound_symbol_here N c H h (b ∷ bs) = by (eqb b c) refl
   where
     by : (t : Bool) → eqb b c ≡ t → Found N (symbol_here c) (λ _ u. u ≡ c ∷ []) H (b ∷ bs) (cond t (ok tt bs) (stop Wrong (length (b ∷ bs))))
     by true e =
-        record { used = b ∷ []; whole = refl; spelled = ap (λ (x : ℕ). x ∷ []) (eqb-true b c e); local = λ _ w k. cond-true (eqb b c) (ok tt w) (stop Wrong (length (b ∷ w))) e }
+        record { used = b ∷ []; split = refl; spelled = ap (λ (x : ℕ). x ∷ []) (eqb-true b c e); local = λ _ w k. cond-true (eqb b c) (ok tt w) (stop Wrong (length (b ∷ w))) e }
     by false e = found-wrong N (symbol_here c) (λ _ u. u ≡ c ∷ []) H (b ∷ bs) (length (b ∷ bs)) refl (h (b ∷ bs)) (λ w k. other w (head-some w b k))
       where
         other : (w : List ℕ) → ((v : List ℕ) × (w ≡ b ∷ v)) → symbol_here c w ≡ stop Wrong (length w)
@@ -115,7 +115,7 @@ run-shape (b ∷ bs) t e = by (eqb b 45) refl e
     by false m h = plain-shape (run_of is_digit (b ∷ bs)) (run-each is_digit (b ∷ bs)) t h
 
 -- a sign and digits that are an Int
-pub record IsWhole (v : Value) (u : List ℕ) : Type 0 where
+pub record IsInteger (v : Value) (u : List ℕ) : Type 0 where
   pub sign : List ℕ
   pub first : ℕ
   pub digits : List ℕ
@@ -146,10 +146,10 @@ number-with bs w p =
 
 module _ (N : Type 0) (H : Kind → List ℕ → List ℕ → Type 0) (wrong : (u r : List ℕ) → IsSign u → H Wrong u r) (past : (r : List ℕ) → IsPastHere r → H Past [] r) (bs : List ℕ) where
   number_range : (t : Bool) → fits (signed_digits_value 10 (number_run bs)) ≡ t → has_digit (number_run bs) ≡ true → Shape true (number_run bs)
-      → Found N number_read IsWhole H bs (cond t (ok (num (signed_digits_value 10 (number_run bs))) (past_number bs)) (stop Past (length bs)))
+      → Found N number_read IsInteger H bs (cond t (ok (num (signed_digits_value 10 (number_run bs))) (past_number bs)) (stop Past (length bs)))
   number_range true e d s = record {
     used = number_run bs;
-    whole = number_run-parts bs;
+    split = number_run-parts bs;
     spelled = record {
       sign = s.0;
       first = s.1;
@@ -168,7 +168,7 @@ module _ (N : Type 0) (H : Kind → List ℕ → List ℕ → Type 0) (wrong : (
   number_range false e d s = record {
     used = [];
     rest = bs;
-    whole = refl;
+    split = refl;
     count = refl;
     here = past bs (record {
       sign = s.0;
@@ -185,12 +185,12 @@ module _ (N : Type 0) (H : Kind → List ℕ → List ℕ → Type 0) (wrong : (
   }
 
   number_found : (t : Bool) → has_digit (number_run bs) ≡ t
-      → Found N number_read IsWhole H bs (cond t (cond (fits (signed_digits_value 10 (number_run bs))) (ok (num (signed_digits_value 10 (number_run bs))) (past_number bs)) (stop Past (length bs))) (stop Wrong (length (past_number bs))))
+      → Found N number_read IsInteger H bs (cond t (cond (fits (signed_digits_value 10 (number_run bs))) (ok (num (signed_digits_value 10 (number_run bs))) (past_number bs)) (stop Past (length bs))) (stop Wrong (length (past_number bs))))
   number_found true e = number_range (fits (signed_digits_value 10 (number_run bs))) refl e (run-shape bs true e)
   number_found false e = record {
     used = number_run bs;
     rest = past_number bs;
-    whole = number_run-parts bs;
+    split = number_run-parts bs;
     count = refl;
     here = wrong (number_run bs) (past_number bs) (run-shape bs false e);
     local = λ _ k w h.
@@ -198,7 +198,7 @@ module _ (N : Type 0) (H : Kind → List ℕ → List ℕ → Type 0) (wrong : (
         ∙ cond-false (has_digit (number_run bs)) (cond (fits (signed_digits_value 10 (number_run bs))) (ok (num (signed_digits_value 10 (number_run bs))) w) (stop Past (length (number_run bs ++ w)))) (stop Wrong (length w)) e;
   }
 
-pub sound_number : (N : Type 0) → (H : Kind → List ℕ → List ℕ → Type 0) → ((u r : List ℕ) → IsSign u → H Wrong u r) → ((r : List ℕ) → IsPastHere r → H Past [] r) → Sound N number_read IsWhole H
+pub sound_number : (N : Type 0) → (H : Kind → List ℕ → List ℕ → Type 0) → ((u r : List ℕ) → IsSign u → H Wrong u r) → ((r : List ℕ) → IsPastHere r → H Past [] r) → Sound N number_read IsInteger H
 sound_number N H wrong past bs = number_found N H wrong past bs (has_digit (number_run bs)) refl
 
 -- ---- a name
@@ -288,7 +288,7 @@ sound_quoted N false (b ∷ bs) = by (eqb b 34) (eqb b 92) (is_raw b) refl refl 
         (cond t (ok [] bs) (cond u (quoted_read true bs) (cond v (stop Wrong (length (b ∷ bs))) (with_front (b ∷ []) (quoted_read false bs)))))
     by true u v x y z it il = record {
       used = b ∷ [];
-      whole = refl;
+      split = refl;
       spelled = ([], ap (λ (c : ℕ). c ∷ []) (eqb-true b 34 x), nothing);
       local = λ _ w h. cond-true (eqb b 34) (ok [] w) (cond (eqb b 92) (quoted_read true w) (cond (is_raw b) (stop Wrong (length (b ∷ w))) (with_front (b ∷ []) (quoted_read false w)))) x;
     }

@@ -70,51 +70,51 @@ arguments-loop-items-preserved t c =
 
 pub call-returns-then-has_symbol-clause-value : goal.call-returns-then-has_symbol-clause-value
 call-returns-then-has_symbol-clause-value t c =
-    call_empty (c.args.left - 1) c.args.tokens.now c.args.at (record { at = c.args.place; text = c.args.text.now }) c.in_ok-call_of.field-0 (λ e. c.if-left-eq1.false (let k = c.requires in omega arith)) c.if-has_symbol.ensures.value
-    (c.in_ok-call_of.ensures ∙ ap (tree.Call (record { at = c.args.place; text = c.args.text.now })) c.new.ensures)
+    call_empty (c.args.left - 1) c.args.tokens.now c.args.at (record { at = c.args.offset; text = c.args.text.now }) c.in_ok-call_of.field-0 (λ e. c.if-left-eq1.false (let k = c.requires in omega arith)) c.if-has_symbol.ensures.value
+    (c.in_ok-call_of.ensures ∙ ap (tree.Call (record { at = c.args.offset; text = c.args.text.now })) c.new.ensures)
 
 pub call-returns-clause-value : goal.call-returns-clause-value
 call-returns-clause-value t c =
-    call_end (c.args.left - 1) c.args.tokens.now c.args.at c.in_ok-arguments.next (record { at = c.args.place; text = c.args.text.now }) c.in_ok-call_of-2.field-0 c.in_ok-arguments.arguments c.if-has_symbol.ensures.value
+    call_end (c.args.left - 1) c.args.tokens.now c.args.at c.in_ok-arguments.next (record { at = c.args.offset; text = c.args.text.now }) c.in_ok-call_of-2.field-0 c.in_ok-arguments.arguments c.if-has_symbol.ensures.value
     c.in_ok-arguments.ensures.value c.if-not-has_symbol.ensures.value c.in_ok-call_of-2.ensures
 
 pub choose-returns-in_err-a-clause-value : goal.choose-returns-in_err-a-clause-value
 choose-returns-in_err-a-clause-value t c =
     let p = err_from_is_err_and c.from_residual-in_err-a.result c.from_residual-in_err-a.ensures.1 in
     rw (p.1, p.2)
-    (if_stopped (c.args.left - 1) c.args.tokens.now (drop c.args.at c.args.tokens.now) c.args.place c.in_ok-c.next c.in_ok-c.c c.in_ok-c.ensures.value c.if-not-has_word.ensures.value
+    (if_stopped (c.args.left - 1) c.args.tokens.now (drop c.args.at c.args.tokens.now) c.args.offset c.in_ok-c.next c.in_ok-c.c c.in_ok-c.ensures.value c.if-not-has_word.ensures.value
     c.in_err-a.field-0.0 c.in_err-a.ensures.value)
 
 pub choose-returns-then-not-has_word-2-clause-value : goal.choose-returns-then-not-has_word-2-clause-value
 choose-returns-then-not-has_word-2-clause-value t c =
-    if_no_else (c.args.left - 1) c.args.tokens.now (drop c.args.at c.args.tokens.now) c.args.place c.in_ok-c.next c.in_ok-c.c c.in_ok-c.ensures.value c.if-not-has_word.ensures.value
+    if_no_else (c.args.left - 1) c.args.tokens.now (drop c.args.at c.args.tokens.now) c.args.offset c.in_ok-c.next c.in_ok-c.c c.in_ok-c.ensures.value c.if-not-has_word.ensures.value
     c.in_ok-a.next c.in_ok-a.a c.in_ok-a.ensures.value c.if-not-has_word-2.ensures.value
 
 pub choose-returns-in_err-b-clause-value : goal.choose-returns-in_err-b-clause-value
 choose-returns-in_err-b-clause-value t c =
     let p = err_from_is_err_and c.from_residual-in_err-b.result c.from_residual-in_err-b.ensures.1 in
     rw (p.1, p.2)
-    (if_stopped_else (c.args.left - 1) c.args.tokens.now (drop c.args.at c.args.tokens.now) c.args.place c.in_ok-c.next c.in_ok-c.c c.in_ok-c.ensures.value c.if-not-has_word.ensures.value
+    (if_stopped_else (c.args.left - 1) c.args.tokens.now (drop c.args.at c.args.tokens.now) c.args.offset c.in_ok-c.next c.in_ok-c.c c.in_ok-c.ensures.value c.if-not-has_word.ensures.value
     c.in_ok-a.next c.in_ok-a.a c.in_ok-a.ensures.value c.if-not-has_word-2.ensures.value c.in_err-b.field-0.0 c.in_err-b.ensures.value)
 
 pub choose-returns-then-not-has_word-3-clause-value : goal.choose-returns-then-not-has_word-3-clause-value
 choose-returns-then-not-has_word-3-clause-value t c =
-    if_no_end (c.args.left - 1) c.args.tokens.now (drop c.args.at c.args.tokens.now) c.args.place c.in_ok-c.next c.in_ok-c.c c.in_ok-c.ensures.value c.if-not-has_word.ensures.value
+    if_no_end (c.args.left - 1) c.args.tokens.now (drop c.args.at c.args.tokens.now) c.args.offset c.in_ok-c.next c.in_ok-c.c c.in_ok-c.ensures.value c.if-not-has_word.ensures.value
     c.in_ok-a.next c.in_ok-a.a c.in_ok-a.ensures.value c.if-not-has_word-2.ensures.value c.in_ok-b.next c.in_ok-b.b c.in_ok-b.ensures.value c.if-not-has_word-3.ensures.value
 
 pub choose-returns-clause-value : goal.choose-returns-clause-value
 choose-returns-clause-value t c =
-    if_end (c.args.left - 1) c.args.tokens.now (drop c.args.at c.args.tokens.now) c.args.place c.in_ok-c.next c.in_ok-c.c c.in_ok-c.ensures.value c.if-not-has_word.ensures.value
+    if_end (c.args.left - 1) c.args.tokens.now (drop c.args.at c.args.tokens.now) c.args.offset c.in_ok-c.next c.in_ok-c.c c.in_ok-c.ensures.value c.if-not-has_word.ensures.value
     c.in_ok-a.next c.in_ok-a.a c.in_ok-a.ensures.value c.if-not-has_word-2.ensures.value c.in_ok-b.next c.in_ok-b.b c.in_ok-choice.field-0 c.in_ok-b.ensures.value
     c.if-not-has_word-3.ensures.value c.in_ok-choice.ensures
 
 pub bracket-returns-clause-value : goal.bracket-returns-clause-value
 bracket-returns-clause-value t c =
-    group_end (c.args.left - 1) c.args.place c.args.tokens.now (drop c.args.at c.args.tokens.now) c.in_ok-e.next c.in_ok-e.e c.in_ok-group.field-0 c.in_ok-e.ensures.value c.if-not-has_symbol.ensures.value c.in_ok-group.ensures
+    group_end (c.args.left - 1) c.args.offset c.args.tokens.now (drop c.args.at c.args.tokens.now) c.in_ok-e.next c.in_ok-e.e c.in_ok-group.field-0 c.in_ok-e.ensures.value c.if-not-has_symbol.ensures.value c.in_ok-group.ensures
 
 pub named-returns-clause-value : goal.named-returns-clause-value
 named-returns-clause-value t c =
-    rw (← named_call (c.args.left - 1) c.args.tokens.now c.args.at (record { at = c.args.place; text = c.args.text.now }) c.if-not-has_symbol.ensures.value) c.call.ensures.value
+    rw (← named_call (c.args.left - 1) c.args.tokens.now c.args.at (record { at = c.args.offset; text = c.args.text.now }) c.if-not-has_symbol.ensures.value) c.call.ensures.value
 
 pub sum-loop-op-preserved : goal.sum-loop-op-preserved
 sum-loop-op-preserved t c = (
@@ -175,35 +175,35 @@ binds-loop-list-preserved t c =
 pub bind_value-returns-clause-value : goal.bind_value-returns-clause-value
 bind_value-returns-clause-value t c =
     subst (Says c.args.tokens.now c.value.result)
-    (sym (room_is c.args.left c.if-left-eq0.false (drop c.args.at c.args.tokens.now) (value_at (readers c.args.left) (record { at = c.args.place; text = c.args.text.now }) (drop (c.args.at + 1) c.args.tokens.now))))
+    (sym (room_is c.args.left c.if-left-eq0.false (drop c.args.at c.args.tokens.now) (value_at (readers c.args.left) (record { at = c.args.offset; text = c.args.text.now }) (drop (c.args.at + 1) c.args.tokens.now))))
     c.value.ensures.value
 
 pub lets-returns-in_err-e-clause-value : goal.lets-returns-in_err-e-clause-value
 lets-returns-in_err-e-clause-value t c =
     let p = err_from_is_err_and c.from_residual-in_err-e.result c.from_residual-in_err-e.ensures.1 in
     rw (p.1, p.2)
-    (let_stopped (c.args.left - 1) c.args.tokens.now (drop c.args.at c.args.tokens.now) c.args.place c.in_ok-list.next c.in_ok-list.list c.in_ok-list.ensures.value c.if-not-has_word.ensures.value
+    (let_stopped (c.args.left - 1) c.args.tokens.now (drop c.args.at c.args.tokens.now) c.args.offset c.in_ok-list.next c.in_ok-list.list c.in_ok-list.ensures.value c.if-not-has_word.ensures.value
     c.in_err-e.field-0.0 c.in_err-e.ensures.value)
 
 pub lets-returns-then-not-has_word-2-clause-value : goal.lets-returns-then-not-has_word-2-clause-value
 lets-returns-then-not-has_word-2-clause-value t c =
-    let_no_end (c.args.left - 1) c.args.tokens.now (drop c.args.at c.args.tokens.now) c.args.place c.in_ok-list.next c.in_ok-list.list c.in_ok-list.ensures.value c.if-not-has_word.ensures.value
+    let_no_end (c.args.left - 1) c.args.tokens.now (drop c.args.at c.args.tokens.now) c.args.offset c.in_ok-list.next c.in_ok-list.list c.in_ok-list.ensures.value c.if-not-has_word.ensures.value
     c.in_ok-e.next c.in_ok-e.e c.in_ok-e.ensures.value c.if-not-has_word-2.ensures.value
 
 pub lets-returns-clause-value : goal.lets-returns-clause-value
 lets-returns-clause-value t c =
-    let_end (c.args.left - 1) c.args.tokens.now (drop c.args.at c.args.tokens.now) c.args.place c.in_ok-list.next c.in_ok-list.list c.in_ok-list.ensures.value c.if-not-has_word.ensures.value
+    let_end (c.args.left - 1) c.args.tokens.now (drop c.args.at c.args.tokens.now) c.args.offset c.in_ok-list.next c.in_ok-list.list c.in_ok-list.ensures.value c.if-not-has_word.ensures.value
     c.in_ok-e.next c.in_ok-e.e c.in_ok-nest.field-0 c.in_ok-e.ensures.value c.if-not-has_word-2.ensures.value c.in_ok-nest.ensures
 
 pub value-returns-in_err-e-clause-value : goal.value-returns-in_err-e-clause-value
 value-returns-in_err-e-clause-value t c =
     let p = err_from_is_err_and c.from_residual.result c.from_residual.ensures.1 in
     rw (p.1, p.2)
-    (value_stopped c.args.left c.args.tokens.now c.args.at (record { at = c.args.place; text = c.args.text.now }) c.if-not-has_symbol.ensures.value c.in_err-e.field-0.0 c.in_err-e.ensures.value)
+    (value_stopped c.args.left c.args.tokens.now c.args.at (record { at = c.args.offset; text = c.args.text.now }) c.if-not-has_symbol.ensures.value c.in_err-e.field-0.0 c.in_err-e.ensures.value)
 
 pub value-returns-clause-value : goal.value-returns-clause-value
 value-returns-clause-value t c =
-    value_read c.args.left c.args.tokens.now c.args.at (record { at = c.args.place; text = c.args.text.now }) c.if-not-has_symbol.ensures.value c.in_ok-e.e c.in_ok-e.next c.in_ok-name.name c.in_ok-e.ensures.value c.in_ok-name.ensures
+    value_read c.args.left c.args.tokens.now c.args.at (record { at = c.args.offset; text = c.args.text.now }) c.if-not-has_symbol.ensures.value c.in_ok-e.e c.in_ok-e.next c.in_ok-name.name c.in_ok-e.ensures.value c.in_ok-name.ensures
 
 pub un-returns-in-None-clause-value : goal.un-returns-in-None-clause-value
 un-returns-in-None-clause-value t c =
@@ -215,10 +215,10 @@ un-returns-in_err-a-in-Some-clause-value t c =
     let p = err_from_is_err_and c.from_residual.result c.from_residual.ensures.1 in
     let room : 0 < c.args.left = omega arith in
     rw (p.1, p.2)
-    (minus_stopped c.args.left room c.args.tokens.now c.args.at c.in-Some.place c.in-Some.ensures.value c.in_err-a-in-Some.field-0.0 c.in_err-a-in-Some.ensures.value)
+    (minus_stopped c.args.left room c.args.tokens.now c.args.at c.in-Some.offset c.in-Some.ensures.value c.in_err-a-in-Some.field-0.0 c.in_err-a-in-Some.ensures.value)
 
 pub un-returns-in_ok-negate-in-Some-clause-value : goal.un-returns-in_ok-negate-in-Some-clause-value
 un-returns-in_ok-negate-in-Some-clause-value t c =
     let room : 0 < c.args.left = omega arith in
-    minus_read c.args.left room c.args.tokens.now c.args.at c.in-Some.place c.in-Some.ensures.value c.in_ok-a-in-Some.a c.in_ok-negate-in-Some.field-0 c.in_ok-a-in-Some.next
+    minus_read c.args.left room c.args.tokens.now c.args.at c.in-Some.offset c.in-Some.ensures.value c.in_ok-a-in-Some.a c.in_ok-negate-in-Some.field-0 c.in_ok-a-in-Some.next
     c.in_ok-a-in-Some.ensures.value c.in_ok-negate-in-Some.ensures

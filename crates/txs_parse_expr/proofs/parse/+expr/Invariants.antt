@@ -1,6 +1,7 @@
 use Rattle.std.proofs.Common.{◌≡◌, ◌+◌, ◌-◌, ◌*◌, ◌<◌, ◌≤◌, drop, length, suc}
+use Rattle.txs_lexer.specs.declared.symbol.TheConstants.{COMMA, SEMICOLON}
 use Rattle.txs_parse_expr.specs.Reader.{readers, many, bind_at}
-use Rattle.txs_parse_expr.specs.View.{with_front}
+use Rattle.txs_parse_expr.proofs.Steps.{with_front}
 use Rattle.txs_parse_expr.proofs.parse.+expr.Given as goal
 
 abbrev pub decreases-expr : goal.decreases-expr
@@ -55,8 +56,8 @@ abbrev pub decreases-prod-loop-op : goal.decreases-prod-loop-op
 decreases-prod-loop-op l = l.room
 
 abbrev pub invariant-arguments-loop-items : goal.invariant-arguments-loop-items
-invariant-arguments-loop-items l = (many (readers l.left).expr 42 (suc (length (drop l.at l.tokens))) (drop l.at l.tokens)
-    ≡ with_front l.items (many (readers l.left).expr 42 (suc (length (drop l.next l.tokens))) (drop l.next l.tokens))) × (l.at ≤ l.next)
+invariant-arguments-loop-items l = (many (readers l.left).expr COMMA (suc (length (drop l.at l.tokens))) (drop l.at l.tokens)
+    ≡ with_front l.items (many (readers l.left).expr COMMA (suc (length (drop l.next l.tokens))) (drop l.next l.tokens))) × (l.at ≤ l.next)
 
 abbrev pub decreases-arguments-loop-items : goal.decreases-arguments-loop-items
 decreases-arguments-loop-items l = length l.tokens - l.next
@@ -74,8 +75,8 @@ abbrev pub decreases-value : goal.decreases-value
 decreases-value l = 16 * l.left + 11
 
 abbrev pub invariant-binds-loop-list : goal.invariant-binds-loop-list
-invariant-binds-loop-list l = (many (bind_at (readers l.left)) 43 (suc (length (drop l.at l.tokens))) (drop l.at l.tokens)
-    ≡ with_front l.list (many (bind_at (readers l.left)) 43 (suc (length (drop l.next l.tokens))) (drop l.next l.tokens))) × (l.at ≤ l.next)
+invariant-binds-loop-list l = (many (bind_at (readers l.left)) SEMICOLON (suc (length (drop l.at l.tokens))) (drop l.at l.tokens)
+    ≡ with_front l.list (many (bind_at (readers l.left)) SEMICOLON (suc (length (drop l.next l.tokens))) (drop l.next l.tokens))) × (l.at ≤ l.next)
 
 abbrev pub decreases-binds-loop-list : goal.decreases-binds-loop-list
 decreases-binds-loop-list l = length l.tokens - l.next

@@ -2,4 +2,4 @@ use Rattle.std.proofs.Common.{◌<◌}
 use Rattle.txs_outside.proofs.mem_sut.tests.tells.Given as goal
 
 abbrev pub invariant-loop-waits : goal.invariant-loop-waits
-invariant-loop-waits g l = 0 < g.U.Sut.dialled l.sut
+invariant-loop-waits g l = 0 < l.sut.dialled
