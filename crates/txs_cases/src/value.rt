@@ -93,7 +93,7 @@ pub fn table(alloc: Global, definitions: &[u8]) -> Result<String, Refusal> {
     let table = table_of(alloc, definitions)?;
     let mut out = String::new(alloc);
     let mut number = 0u32;
-    while let Some((ty, constructor)) = table.place(number) {
+    while let Some((ty, constructor)) = table.constructor_at(number) {
         push_constructor(&mut out, &table, number, ty, constructor)?;
         if number == u32::MAX {
             break;
