@@ -1,7 +1,7 @@
 ghost use Rattle.std.specs.Prelude.{◌≡◌, IsTrue};
 ghost use Rattle.std.specs.List.{list_all};
 ghost use Rattle.txs_values.specs.Spelling as spelling;
-ghost use Rattle.txs_types.specs.Laws.{FileHasNames};
+ghost use Rattle.txs_types.specs.Files.{FileHasNames};
 ghost use Rattle.txs_cases.specs.Called as spec;
 
 use txs_syntax::{ConDef, Def, File};
