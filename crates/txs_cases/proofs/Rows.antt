@@ -15,7 +15,7 @@ use Rattle.txs_syntax.specs.declared.file.Def.TheVariants as def
 use Rattle.txs_syntax.specs.declared.file.DeclList.{DeclList}
 use Rattle.txs_syntax.specs.declared.file.ConDef.{ConDef}
 use Rattle.txs_types.specs.Files.{table_in, constructors_of, type_names, variables_of, names_of}
-use Rattle.txs_types.specs.Laws.{FileHasNames}
+use Rattle.txs_types.specs.Files.{FileHasNames}
 use Rattle.txs_eval.specs.Answer.{IsTyped}
 use Rattle.txs_cases.specs.Called.{is_name, is_called_by_name, has_names}
 
