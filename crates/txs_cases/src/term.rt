@@ -31,7 +31,7 @@ fn push_levels(
     }
     match term.top(alloc)? {
         Top::Stop => out.push_str("STOP")?,
-        Top::Prefix(offers, _, then) => {
+        Top::Prefix(offers, _guards, then) => {
             push_offers(out, model, offers.as_slice())?;
             out.push_str(" >-> ")?;
             push_levels(alloc, out, model, &then, levels - 1)?;
@@ -43,7 +43,7 @@ fn push_levels(
             push_levels(alloc, out, model, &right, levels - 1)?;
             out.push(')')?;
         }
-        _ => out.push_str("another")?,
+        _other => out.push_str("another")?,
     }
     Ok(())
 }
