@@ -1,7 +1,9 @@
-ghost use Rattle.std.specs.Prelude.{◌≡◌, [], IfOk};
+ghost use Rattle.std.specs.Prelude.{◌≡◌, [], IfOk, IsTrue, Some};
 ghost use Rattle.txs_values.specs.Value.{Ty as TheType};
 ghost use Rattle.txs_terms.specs.View.{definitions_of, expr_of};
 ghost use Rattle.txs_eval.specs.Answer.{IsTyped};
+ghost use Rattle.txs_types.specs.Files.{IsNeed};
+ghost use Rattle.txs_types.specs.Answer.{want_of};
 
 use crate::definitions::definitions_of;
 use crate::reader::declarations_of;
@@ -14,6 +16,7 @@ use std::alloc::Global;
 use txs_syntax::{Ast, DeclList};
 use txs_terms::{Defs, Expr};
 use txs_types::{TypeFault, type_query};
+use txs_values::{Ty, TypeTable};
 
 fn no_variables(alloc: Global) -> DeclList
     ensures { result.decls ≡ [] }
@@ -54,6 +57,29 @@ pub fn eval(alloc: Global, definitions: &[u8], text: &[u8]) -> Result<String, Re
     }
 }
 
+/// Whether a type is one of a table.
+fn is_known(table: &TypeTable, ty: Ty) -> bool
+    ensures { IsTrue result → IsNeed table.now (want_of (Some ty)) }
+{
+    match ty {
+        Ty::Named(number) => (number as usize) < table.as_slice().len(),
+        _ => true,
+    }
+}
+
+/// The type that is needed: none for an empty name.
+fn wanted(table: &TypeTable, name: &[u8]) -> Result<Option<Ty>, Refusal>
+    ensures { IfOk result (λ want. IsNeed table.now (want_of want)) }
+{
+    if name.is_empty() {
+        return Ok(None);
+    }
+    match type_named(table.as_slice(), name) {
+        Some(ty) if is_known(table, ty) => Ok(Some(ty)),
+        _ => Err(Refusal::Unread),
+    }
+}
+
 /// Whether an expression over definitions and declared variables is of a type, if one is named.
 pub fn query(
     alloc: Global,
@@ -65,14 +91,7 @@ pub fn query(
     let defs = definitions_of(alloc, definitions)?;
     let decls = declarations_of(alloc, declared)?;
     let tree = tree_of(alloc, text)?;
-    let want = if name.is_empty() {
-        None
-    } else {
-        match type_named(defs.table().as_slice(), name) {
-            Some(ty) => Some(ty),
-            None => return Err(Refusal::Unread),
-        }
-    };
+    let want = wanted(defs.table(), name)?;
     type_query(alloc, &defs, &decls, &tree, want)?;
     Ok(String::from_str(alloc, "TYPED\n")?)
 }

@@ -48,11 +48,12 @@ fn sure_result(alloc: Global, name: &Text, run: Run) -> Result<String, NoMemory>
 
 /// What comes of a run over objects in memory.
 fn memory_result(alloc: Global, name: &Text, run: Run) -> Result<String, NoMemory> {
+    let fails = run.fails;
     let words = run.words.unwrap_or(Vec::new(alloc));
-    let mut files = MemFiles::new(run.files, numbers(alloc, run.fails.files));
-    let mut source = source(alloc, run.commands, run.fails.source, run.reads);
-    let mut sink = MemSink::new(alloc, BYTES, numbers(alloc, run.fails.sink))?;
-    let mut sut = MemSut::new(alloc, run.script, CALLS, numbers(alloc, run.fails.sut))?;
+    let mut files = MemFiles::new(run.files, numbers(alloc, fails.files));
+    let mut source = source(alloc, run.commands, fails.source, run.reads);
+    let mut sink = MemSink::new(alloc, BYTES, numbers(alloc, fails.sink))?;
+    let mut sut = MemSut::new(alloc, run.script, CALLS, numbers(alloc, fails.sut))?;
     let status = top(
         alloc,
         words.as_slice(),

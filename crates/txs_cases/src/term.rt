@@ -1,11 +1,21 @@
+use sqlite_items::Items;
 use std::alloc::Global;
 use std::fmt::Write;
 use txs_drive::Model;
 use txs_terms::{Expr, Offer, Position, Term, Top};
 use txs_values::{NoMemory, Value};
 
-/// So many levels of a term are written; a file's words allow fewer.
-const LEVELS: usize = 1_000;
+/// What is still to be written.
+#[derive(Drop)]
+enum Part {
+    Term(Term),
+    /// Between the sides of a choice.
+    Or,
+    Close,
+}
+
+/// So many parts of a term are written; a file has fewer.
+const PARTS: usize = 10_000;
 
 /// A term with all parentheses: `In ? x >-> (Out ! $0 >-> STOP ## Out ! 7 >-> STOP)`.
 pub fn push_term(
@@ -14,37 +24,62 @@ pub fn push_term(
     model: &Model,
     term: &Term,
 ) -> Result<(), NoMemory> {
-    push_levels(alloc, out, model, term, LEVELS)
+    let mut parts = Items::new(alloc);
+    parts.push(Part::Term(term.copy(alloc)?))?;
+    for _ in 0..PARTS {
+        match parts.pop() {
+            Some(part) => push_part(alloc, out, model, &mut parts, part)?,
+            None => break,
+        }
+    }
+    Ok(())
 }
 
-/// So many levels of a term.
-fn push_levels(
+/// Writes a part, up to the terms below it.
+fn push_part(
     alloc: Global,
     out: &mut String,
     model: &Model,
-    term: &Term,
-    levels: usize,
+    parts: &mut Items<Part>,
+    part: Part,
 ) -> Result<(), NoMemory> {
-    if levels == 0 {
-        out.push_str("..")?;
-        return Ok(());
+    match part {
+        Part::Term(term) => {
+            let top = term.top(alloc)?;
+            push_top(out, model, parts, top)
+        }
+        Part::Or => Ok(out.push_str(" ## ")?),
+        Part::Close => Ok(out.push(')')?),
     }
-    match term.top(alloc)? {
-        Top::Stop => out.push_str("STOP")?,
-        Top::Prefix(offers, _, then) => {
+}
+
+fn push_top(
+    out: &mut String,
+    model: &Model,
+    parts: &mut Items<Part>,
+    top: Top,
+) -> Result<(), NoMemory> {
+    match top {
+        Top::Stop => Ok(out.push_str("STOP")?),
+        Top::Prefix(offers, _guards, then) => {
             push_offers(out, model, offers.as_slice())?;
-            out.push_str(" >-> ")?;
-            push_levels(alloc, out, model, &then, levels - 1)?;
+            parts.push(Part::Term(then))?;
+            Ok(out.push_str(" >-> ")?)
         }
         Top::Choice(left, right) => {
-            out.push('(')?;
-            push_levels(alloc, out, model, &left, levels - 1)?;
-            out.push_str(" ## ")?;
-            push_levels(alloc, out, model, &right, levels - 1)?;
-            out.push(')')?;
+            put_sides(parts, left, right)?;
+            Ok(out.push('(')?)
         }
-        _ => out.push_str("another")?,
+        _other => Ok(out.push_str("another")?),
     }
+}
+
+/// Puts the sides of a choice, and what stands around them, before the other parts.
+fn put_sides(parts: &mut Items<Part>, left: Term, right: Term) -> Result<(), NoMemory> {
+    parts.push(Part::Close)?;
+    parts.push(Part::Term(right))?;
+    parts.push(Part::Or)?;
+    parts.push(Part::Term(left))?;
     Ok(())
 }
 
