@@ -92,15 +92,8 @@ pub fn extent(alloc: Global, definitions: &[u8], name: &[u8]) -> Result<String, 
 pub fn table(alloc: Global, definitions: &[u8]) -> Result<String, Refusal> {
     let table = table_of(alloc, definitions)?;
     let mut out = String::new(alloc);
-<<<<<<< HEAD
-    let mut number = 0u32;
-    while let Some((ty, constructor)) = table.constructor_at(number) {
-        push_constructor(&mut out, &table, number, ty, constructor)?;
-        if number == u32::MAX {
-=======
     for number in 0..u32::MAX {
-        let Some((ty, constructor)) = table.place(number) else {
->>>>>>> h-e
+        let Some((ty, constructor)) = table.constructor_at(number) else {
             break;
         };
         push_constructor(&mut out, &table, number, ty, constructor)?;
