@@ -7,4 +7,3 @@ pub mod Steps
 pub mod Nodes
 pub mod Meaning
 pub mod Readings
-pub mod Examples

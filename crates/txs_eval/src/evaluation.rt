@@ -266,6 +266,3 @@ fn each(
     }
     Ok((values, nodes))
 }
-
-#[cfg(test)]
-mod tests;

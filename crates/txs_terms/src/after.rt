@@ -211,6 +211,3 @@ pub fn after_quiescence(alloc: Global, set: &[Term], out: u32) -> Result<Items<T
     let found = quiet_ones(alloc, out, set)?;
     Ok(found)
 }
-
-#[cfg(test)]
-mod tests;
