@@ -24,9 +24,9 @@ counted s bs n r u xs d e =
     let z = no_more (chars_rest t) d.1.2.0.0 in
     e ∙ ap length (sym (ap chars (sym r) ∙ (g ∙ (ap (λ l. xs ++ l) z ∙ append-nil xs))))
 
-behind : (xs ys : List ℕ) → slice_get (xs ++ ys) (length xs) ≡ slice_get ys 0
-behind [] ys = refl
-behind (x ∷ xs) ys = behind xs ys
+later : (xs ys : List ℕ) → slice_get (xs ++ ys) (length xs) ≡ slice_get ys 0
+later [] ys = refl
+later (x ∷ xs) ys = later xs ys
 
 pub found : (s : _) (bs : List ℕ) (n : ℕ) (r : Option ℕ) (u : _) → chars_rest s ≡ bs → IsUtf8 bs → SkipsThenYields chars_steps s n r u → r ≡ slice_get (chars bs) n
 found s bs n None u r h k =
@@ -39,4 +39,4 @@ found s bs n (Some c) u r h k =
     let t = k.1.0 in
     let g = given s k.0 t (subst IsUtf8 (sym r) h) k.1.1 in
     let e : chars bs ≡ k.0 ++ chars (chars_rest t) = ap chars (sym r) ∙ g in
-    k.1.2.2 ∙ (sym (behind k.0 (chars (chars_rest t))) ∙ (ap (λ l. slice_get l (length k.0)) (sym e) ∙ ap (slice_get (chars bs)) k.2))
+    k.1.2.2 ∙ (sym (later k.0 (chars (chars_rest t))) ∙ (ap (λ l. slice_get l (length k.0)) (sym e) ∙ ap (slice_get (chars bs)) k.2))

@@ -58,7 +58,7 @@ pub fn on_one(alloc: Global, table: &TypeTable, operator: Unary, found: Found) -
     }
 }
 
-/// An operator on a value and the one that was found behind it.
+/// An operator on a value and the one that was found after it.
 pub fn on_two(alloc: Global, operator: Binary, a: Value, found: Found) -> Found
     ensures value { (r : spec.Run) → Ends found r → Ends result (spec.then_run r (λ y. spec.after (spec.binary (binary_of operator) (value_of a) y))) }
 {
@@ -68,7 +68,7 @@ pub fn on_two(alloc: Global, operator: Binary, a: Value, found: Found) -> Found
     }
 }
 
-/// Whether a value and the one that was found behind it are the same.
+/// Whether a value and the one that was found after it are the same.
 pub fn on_equal(a: Value, found: Found) -> Found
     ensures value { (r : spec.Run) → Ends found r → Ends result (spec.then_run r (λ y. spec.got (bool (same_value (value_of a) y)))) }
     ensures memory { result ≡ Err Stop.NoMemory → found ≡ Err Stop.NoMemory }
@@ -108,7 +108,7 @@ pub fn built(constructor: u32, found: Result<(Values, u32), Stop>) -> Found
     }
 }
 
-/// The value that was found goes behind these.
+/// The value that was found goes after these.
 pub fn pushed(values: &mut Values, found: Found) -> Result<u32, Stop>
     ensures value { IfOk result (λ n. (v : rust.Value) × (found ≡ Ok (v, n)) × (values.new ≡ values.old ++ v ∷ [])) }
     ensures kept { OnErr result (values.new ≡ values.old) }

@@ -11,7 +11,7 @@ use txs_terms::Binary;
 use txs_values::Value;
 
 /// A number, where it is one of Int.
-pub fn whole(number: Option<i128>) -> Result<Value, Stop>
+pub fn integer(number: Option<i128>) -> Result<Value, Stop>
     ensures value { (x : ℤ) → SomeIff number (FitsSigned w128 x) x → Comes result (in_range x) }
     ensures memory { result ≢ Err Stop.NoMemory }
 {
@@ -25,7 +25,7 @@ pub fn negated(x: i128) -> Result<Value, Stop>
     ensures value { Comes result (in_range (neg_ℤ x)) }
     ensures memory { result ≢ Err Stop.NoMemory }
 {
-    whole(x.checked_neg())
+    integer(x.checked_neg())
 }
 
 fn quotient(x: i128, y: i128) -> Result<Value, Stop>
@@ -35,7 +35,7 @@ fn quotient(x: i128, y: i128) -> Result<Value, Stop>
     if y == 0 {
         Err(Stop::Division)
     } else {
-        whole(x.checked_div(y))
+        integer(x.checked_div(y))
     }
 }
 
@@ -47,21 +47,21 @@ fn remainder_of(x: i128, y: i128) -> Result<Value, Stop>
     if y == 0 {
         Err(Stop::Division)
     } else if y == -1 {
-        whole(Some(0))
+        integer(Some(0))
     } else {
-        whole(Some(x % y))
+        integer(Some(x % y))
     }
 }
 
 /// An operator on two numbers.
 pub fn on_numbers(operator: Binary, x: i128, y: i128) -> Result<Value, Stop>
-    ensures value { Comes result (spec.whole_binary (binary_of operator) x y) }
+    ensures value { Comes result (spec.integer_binary (binary_of operator) x y) }
     ensures memory { result ≢ Err Stop.NoMemory }
 {
     match operator {
-        Binary::Plus => whole(x.checked_add(y)),
-        Binary::Minus => whole(x.checked_sub(y)),
-        Binary::Times => whole(x.checked_mul(y)),
+        Binary::Plus => integer(x.checked_add(y)),
+        Binary::Minus => integer(x.checked_sub(y)),
+        Binary::Times => integer(x.checked_mul(y)),
         Binary::Divide => quotient(x, y),
         Binary::Remainder => remainder_of(x, y),
         Binary::LessThan => Ok(Value::Bool(x < y)),

@@ -6,7 +6,7 @@ ghost use Rattle.txs_terms.specs.View.{binary_of};
 ghost use Rattle.txs_eval.specs.Answer.{Comes};
 
 use crate::fault::Stop;
-use crate::numbers::whole;
+use crate::numbers::integer;
 use std::alloc::Global;
 use txs_terms::Binary;
 use txs_values::{Text, VALUE_HEIGHT_LIMIT, VALUE_SIZE_LIMIT, Value, height_of, size_of};
@@ -42,15 +42,15 @@ pub fn text_length(text: &Text) -> Result<Value, Stop>
     ensures value { Comes result (spec.in_range (pos (length (chars text.now)))) }
     ensures memory { result ≢ Err Stop.NoMemory }
 {
-    whole(Some(char_count(text.as_str()) as i128))
+    integer(Some(char_count(text.as_str()) as i128))
 }
 
 fn joined(alloc: Global, a: &Text, b: &Text) -> Result<Value, Stop>
     ensures { Comes result (spec.sized (text (a.now ++ b.now))) }
 {
-    let mut whole = String::from_str(alloc, a.as_str())?;
-    whole.push_str(b.as_str())?;
-    sized(Value::Text(Text::from_string(whole)))
+    let mut text = String::from_str(alloc, a.as_str())?;
+    text.push_str(b.as_str())?;
+    sized(Value::Text(Text::from_string(text)))
 }
 
 /// The character at a place of the text.
@@ -69,9 +69,9 @@ pub fn char_at(alloc: Global, text: &Text, at: i128) -> Result<Value, Stop>
 fn char_text(alloc: Global, found: char) -> Result<Value, Stop>
     ensures { Comes result (spec.fine (text (encode_utf8 found))) }
 {
-    let mut whole = String::new(alloc);
-    whole.push(found)?;
-    Ok(Value::Text(Text::from_string(whole)))
+    let mut text = String::new(alloc);
+    text.push(found)?;
+    Ok(Value::Text(Text::from_string(text)))
 }
 
 /// An operator on two texts.

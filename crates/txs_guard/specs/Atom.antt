@@ -34,52 +34,53 @@ abbrev pub value_in : Run → Option Value
 value_in (got v n) = Some v
 value_in (bad f) = None
 
--- the value of an expression without slots that evaluates without fault
-abbrev pub fixed_value : Query → Expr → Option Value
-fixed_value q e = cond (has_slot e) None (value_in (eval q.defs e))
-
 -- whether there is a value
 abbrev pub has_value : Option Value → Bool
 has_value None = false
 has_value (Some v) = true
 
--- a place against a place of its type Int, Bool or String, or against a constant
-abbrev pub is_equality : Query → Expr → Expr → Bool
-is_equality q a b =
-    has_spot (spot_of a) && (has_spot (spot_of b) && (is_plain (spot_type q (spot_of a)) && same_types (spot_type q (spot_of a)) (spot_type q (spot_of b))))
-    || (has_spot (spot_of a) && has_value (fixed_value q b) || has_value (fixed_value q a) && has_spot (spot_of b))
-
--- an Int place, or a constant
-abbrev pub is_integer_side : Query → Expr → Bool
-is_integer_side q a = is_type integer (spot_type q (spot_of a)) || has_value (fixed_value q a)
-
--- Int places and constants, one place at least
-abbrev pub is_comparison : Query → Expr → Expr → Bool
-is_comparison q a b = is_integer_side q a && (is_integer_side q b && (has_spot (spot_of a) || has_spot (spot_of b)))
-
 -- `<`, `<=`, `>` and `>=`
-abbrev pub is_order_sign : Binary → Bool
-is_order_sign less_than = true
-is_order_sign at_most = true
-is_order_sign more_than = true
-is_order_sign at_least = true
-is_order_sign _ = false
+abbrev pub is_order_operator : Binary → Bool
+is_order_operator less_than = true
+is_order_operator at_most = true
+is_order_operator more_than = true
+is_order_operator at_least = true
+is_order_operator _ = false
 
 -- `<>`
 abbrev pub is_differ : Binary → Bool
 is_differ differ = true
 is_differ _ = false
 
--- whether an atom is an order atom
-abbrev pub is_order_atom : Query → Expr → Bool
-is_order_atom q (slot i) = is_type truth (spot_type q (spot_of (slot i)))
-is_order_atom q (one (is_made_by c) a) = has_spot (spot_of a)
-is_order_atom q (one (select c j) a) = is_type truth (spot_type q (spot_of (one (select c j) a)))
-is_order_atom q (equal a b) = is_equality q a b
-is_order_atom q (two o a b) = cond (is_order_sign o) (is_comparison q a b) (cond (is_differ o) (is_equality q a b) false)
-is_order_atom q _ = false
+module _ (q : Query) where
+  -- the value of an expression without slots that evaluates without fault
+  abbrev pub fixed_value : Expr → Option Value
+  fixed_value e = cond (has_slot e) None (value_in (eval q.defs e))
 
--- whether all of them are
-abbrev pub all_order : Query → List Expr → Bool
-all_order q [] = true
-all_order q (e ∷ es) = is_order_atom q e && all_order q es
+  -- a place against a place of its type Int, Bool or String, or against a constant
+  abbrev pub is_equality : Expr → Expr → Bool
+  is_equality a b =
+      has_spot (spot_of a) && (has_spot (spot_of b) && (is_plain (spot_type q (spot_of a)) && same_types (spot_type q (spot_of a)) (spot_type q (spot_of b))))
+      || (has_spot (spot_of a) && has_value (fixed_value b) || has_value (fixed_value a) && has_spot (spot_of b))
+
+  -- an Int place, or a constant
+  abbrev pub is_integer_side : Expr → Bool
+  is_integer_side a = is_type integer (spot_type q (spot_of a)) || has_value (fixed_value a)
+
+  -- Int places and constants, one place at least
+  abbrev pub is_comparison : Expr → Expr → Bool
+  is_comparison a b = is_integer_side a && (is_integer_side b && (has_spot (spot_of a) || has_spot (spot_of b)))
+
+  -- whether an atom is an order atom
+  abbrev pub is_order_atom : Expr → Bool
+  is_order_atom (slot i) = is_type truth (spot_type q (spot_of (slot i)))
+  is_order_atom (one (is_made_by c) a) = has_spot (spot_of a)
+  is_order_atom (one (select c j) a) = is_type truth (spot_type q (spot_of (one (select c j) a)))
+  is_order_atom (equal a b) = is_equality a b
+  is_order_atom (two o a b) = cond (is_order_operator o) (is_comparison a b) (cond (is_differ o) (is_equality a b) false)
+  is_order_atom _ = false
+
+  -- whether all of them are
+  abbrev pub all_order : List Expr → Bool
+  all_order [] = true
+  all_order (e ∷ es) = is_order_atom e && all_order es

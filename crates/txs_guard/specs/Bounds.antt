@@ -8,7 +8,7 @@ use Rattle.txs_guard.specs.Atom.{fixed_value}
 use Rattle.txs_guard.specs.Mentioned.{flat}
 use Rattle.txs_guard.specs.Candidates.{count_made, fields_of, run_up, least}
 
--- an Int with its sign: at least or at most
+-- at least an Int, or at most
 pub record Bound : Type 0 where
   pub of_slot : ℕ
   pub is_low : Bool
@@ -27,15 +27,15 @@ low i x = record { of_slot = i; is_low = true; value = x } ∷ []
 abbrev pub high : ℕ → ℤ → List Bound
 high i x = record { of_slot = i; is_low = false; value = x } ∷ []
 
--- the bound that `slot SIGN x` is
-abbrev pub sign_bounds : Binary → ℕ → ℤ → List Bound
-sign_bounds less_than i x = high i (x -ℤ pos 1)
-sign_bounds at_most i x = high i x
-sign_bounds more_than i x = low i (x +ℤ pos 1)
-sign_bounds at_least i x = low i x
-sign_bounds _ i x = []
+-- the bounds that an order operator after a slot and before an Int is
+abbrev pub operator_bounds : Binary → ℕ → ℤ → List Bound
+operator_bounds less_than i x = high i (x -ℤ pos 1)
+operator_bounds at_most i x = high i x
+operator_bounds more_than i x = low i (x +ℤ pos 1)
+operator_bounds at_least i x = low i x
+operator_bounds _ i x = []
 
--- the sign that says the same with its sides exchanged
+-- the operator that says the same with its sides exchanged
 abbrev pub turned : Binary → Binary
 turned less_than = more_than
 turned at_most = at_least
@@ -48,16 +48,17 @@ abbrev pub with_number : Option ℤ → (ℤ → List Bound) → List Bound
 with_number None go = []
 with_number (Some x) go = go x
 
--- the bounds of a slot by an expression without slots
-abbrev pub left_bounds : Query → Expr → Expr → (ℕ → ℤ → List Bound) → List Bound
-left_bounds q (slot i) b go = with_number (number_in (fixed_value q b)) (go i)
-left_bounds q _ b go = []
+module _ (q : Query) where
+  -- the bounds of a slot by an expression without slots
+  abbrev pub left_bounds : Expr → Expr → (ℕ → ℤ → List Bound) → List Bound
+  left_bounds (slot i) b go = with_number (number_in (fixed_value q b)) (go i)
+  left_bounds _ b go = []
 
--- the bounds that a conjunct is, either way round
-abbrev pub bounds_of : Query → Expr → List Bound
-bounds_of q (equal a b) = left_bounds q a b (λ i x. low i x ++ high i x) ++ left_bounds q b a (λ i x. low i x ++ high i x)
-bounds_of q (two o a b) = left_bounds q a b (sign_bounds o) ++ left_bounds q b a (sign_bounds (turned o))
-bounds_of q _ = []
+  -- the bounds that a conjunct is, either way round
+  abbrev pub bounds_of : Expr → List Bound
+  bounds_of (equal a b) = left_bounds a b (λ i x. low i x ++ high i x) ++ left_bounds b a (λ i x. low i x ++ high i x)
+  bounds_of (two o a b) = left_bounds a b (operator_bounds o) ++ left_bounds b a (operator_bounds (turned o))
+  bounds_of _ = []
 
 -- the lower bounds of a slot, or the upper ones
 abbrev pub bounds_for : ℕ → Bool → List Bound → List ℤ
@@ -90,18 +91,19 @@ plain_made table k [] = Some []
 plain_made table k (c ∷ cs) =
     elim (plain_made table k cs) [ None ↦ None | Some vs ↦ elim (fields_of (place_of table c) k) [ None ↦ Some vs | Some fs ↦ elim fs [ [] ↦ Some (cons c no_value ∷ vs) | f ∷ gs ↦ None ] ] ]
 
--- all values of a slot, where they are bounded so
-abbrev pub every_value : Table → List Bound → ℕ → Ty → Option (List Value)
-every_value table bs i integer = between (bounds_for i true bs) (bounds_for i false bs)
-every_value table bs i truth = Some (bool false ∷ bool true ∷ [])
-every_value table bs i string = None
-every_value table bs i (named k) = plain_made table k (from 0 (count_made table))
+module _ (table : Table) (bs : List Bound) where
+  -- all values of a slot, where they are bounded so
+  abbrev pub every_value : ℕ → Ty → Option (List Value)
+  every_value i integer = between (bounds_for i true bs) (bounds_for i false bs)
+  every_value i truth = Some (bool false ∷ bool true ∷ [])
+  every_value i string = None
+  every_value i (named k) = plain_made table k (from 0 (count_made table))
 
--- all values of each slot, where each is bounded so
-abbrev pub every_slot : Table → List Bound → ℕ → List Ty → Option (List (List Value))
-every_slot table bs i [] = Some []
-every_slot table bs i (t ∷ ts) =
-    elim (every_value table bs i t) [ None ↦ None | Some vs ↦ elim (every_slot table bs (suc i) ts) [ None ↦ None | Some vss ↦ Some (vs ∷ vss) ] ]
+  -- all values of each slot, where each is bounded so
+  abbrev pub every_slot : ℕ → List Ty → Option (List (List Value))
+  every_slot i [] = Some []
+  every_slot i (t ∷ ts) =
+      elim (every_value i t) [ None ↦ None | Some vs ↦ elim (every_slot (suc i) ts) [ None ↦ None | Some vss ↦ Some (vs ∷ vss) ] ]
 
 -- all values of each slot of a query, where each is bounded so
 abbrev pub bounded_case : Query → Option (List (List Value))

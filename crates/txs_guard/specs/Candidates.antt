@@ -82,29 +82,31 @@ abbrev pub fields_of : Option Place → ℕ → Option (List Field)
 fields_of None k = None
 fields_of (Some p) k = cond (eqb p.ty k) (Some p.constructor.fields) None
 
--- an unmentioned field has its default alone
-abbrev pub field_choices : (Ty → Value) → (Ty → List Path → List Value) → Ty → List Path → List Value
-field_choices default go t [] = default t ∷ []
-field_choices default go t (p ∷ ps) = go t (p ∷ ps)
+module _ (default : Ty → Value) (go : Ty → List Path → List Value) where
+  -- an unmentioned field has its default alone
+  abbrev pub field_choices : Ty → List Path → List Value
+  field_choices t [] = default t ∷ []
+  field_choices t (p ∷ ps) = go t (p ∷ ps)
 
--- the choices for each field of a constructor
-abbrev pub each_field : (Ty → Value) → (Ty → List Path → List Value) → ℕ → ℕ → List Field → List Path → List (List Value)
-each_field default go c j [] ps = []
-each_field default go c j (f ∷ fs) ps = field_choices default go f.ty (below c j ps) ∷ each_field default go c (suc j) fs ps
+  -- the choices for each field of a constructor
+  abbrev pub each_field : ℕ → ℕ → List Field → List Path → List (List Value)
+  each_field c j [] ps = []
+  each_field c j (f ∷ fs) ps = field_choices f.ty (below c j ps) ∷ each_field c (suc j) fs ps
 
--- a constructor with every choice of its fields
-abbrev pub made_choices : (Ty → Value) → (Ty → List Path → List Value) → ℕ → Option (List Field) → List Path → List Value
-made_choices default go c None ps = []
-made_choices default go c (Some fs) ps = map (λ vs. cons c (packed vs)) (cells (each_field default go c 0 fs ps))
+  -- a constructor with every choice of its fields
+  abbrev pub made_choices : ℕ → Option (List Field) → List Path → List Value
+  made_choices c None ps = []
+  made_choices c (Some fs) ps = map (λ vs. cons c (packed vs)) (cells (each_field c 0 fs ps))
 
--- the candidates of a place of this type, below which these paths are mentioned; at most `left` selectors deep
-abbrev pub choices : Table → (Ty → Value) → Pools → ℕ → Ty → List Path → List Value
-choices table default pools left integer ps = map num pools.integer_pool
-choices table default pools left truth ps = bool false ∷ bool true ∷ []
-choices table default pools left string ps = map text pools.text_pool
-choices table default pools zero (named k) ps = []
-choices table default pools (suc left) (named k) ps =
-    flat (λ c. made_choices default (choices table default pools left) c (fields_of (place_of table c) k) ps) (from 0 (count_made table))
+module _ (table : Table) (default : Ty → Value) (pools : Pools) where
+  -- the candidates of a place of this type, below which these paths are mentioned; at most `left` selectors deep
+  abbrev pub choices : ℕ → Ty → List Path → List Value
+  choices left integer ps = map num pools.integer_pool
+  choices left truth ps = bool false ∷ bool true ∷ []
+  choices left string ps = map text pools.text_pool
+  choices zero (named k) ps = []
+  choices (suc left) (named k) ps =
+      flat (λ c. made_choices default (choices left) c (fields_of (place_of table c) k) ps) (from 0 (count_made table))
 
 -- the most selectors of a place
 abbrev pub longest : List Spot → ℕ

@@ -70,10 +70,6 @@ sides_of (equal a b) = a ∷ b ∷ []
 sides_of (two o a b) = a ∷ b ∷ []
 sides_of _ = []
 
--- the constants of an atom
-abbrev pub constants_of : Query → Expr → List Value
-constants_of q e = flat (λ a. some_list (fixed_value q a)) (sides_of e)
-
 -- a path and all that it begins with
 abbrev pub prefixes : Path → List Path
 prefixes [] = [] ∷ []
@@ -87,18 +83,10 @@ spot i p = record { base = i; path = p }
 abbrev pub spots_below : List Value → Spot → List Spot
 spots_below vs s = map (spot s.base) (flat prefixes (s.path ∷ flat (λ v. map (λ p. s.path ++ p) (places_of v)) vs))
 
--- the places that an atom mentions
-abbrev pub spots_of : Query → Expr → List Spot
-spots_of q e = flat (λ a. flat (spots_below (constants_of q e)) (some_list (spot_of a))) (sides_of e)
-
 -- each slot by itself
 abbrev pub slot_spots : ℕ → List Ty → List Spot
 slot_spots i [] = []
 slot_spots i (t ∷ ts) = spot i [] ∷ slot_spots (suc i) ts
-
--- all places that a query mentions, in order, perhaps more than once
-abbrev pub mentioned : Query → List Spot
-mentioned q = slot_spots 0 q.slots ++ flat (spots_of q) (atoms_of_all q.conjuncts)
 
 -- the paths of the places of a slot
 abbrev pub paths_at : ℕ → List Spot → List Path
@@ -126,23 +114,36 @@ abbrev pub once : {A : Type 0} → (A → A → Bool) → List A → List A → 
 once same seen [] = []
 once same seen (x ∷ xs) = cond (any_is same x seen) (once same seen xs) (x ∷ once same (x ∷ seen) xs)
 
--- those of this type
-abbrev pub of_type : Query → Ty → List Spot → List Spot
-of_type q t [] = []
-of_type q t (s ∷ ss) = cond (is_type t (spot_type q (Some s))) (s ∷ of_type q t ss) (of_type q t ss)
+module _ (q : Query) where
+  -- the constants of an atom
+  abbrev pub constants_of : Expr → List Value
+  constants_of e = flat (λ a. some_list (fixed_value q a)) (sides_of e)
 
--- the mentioned places of a type, each once
-abbrev pub places_with : Query → Ty → List Spot
-places_with q t = once same_spot [] (of_type q t (mentioned q))
+  -- the places that an atom mentions
+  abbrev pub spots_of : Expr → List Spot
+  spots_of e = flat (λ a. flat (spots_below (constants_of e)) (some_list (spot_of a))) (sides_of e)
 
--- the constants of a query, in order
-abbrev pub constants : Query → List Value
-constants q = flat (constants_of q) (atoms_of_all q.conjuncts)
+  -- all places that a query mentions, in order, perhaps more than once
+  abbrev pub mentioned : List Spot
+  mentioned = slot_spots 0 q.slots ++ flat spots_of (atoms_of_all q.conjuncts)
 
--- the Ints of its constants
-abbrev pub numbers : Query → List ℤ
-numbers q = flat numbers_in (constants q)
+  -- those of this type
+  abbrev pub of_type : Ty → List Spot → List Spot
+  of_type t [] = []
+  of_type t (s ∷ ss) = cond (is_type t (spot_type q (Some s))) (s ∷ of_type t ss) (of_type t ss)
 
--- the texts of its constants, each once, by first appearance
-abbrev pub texts : Query → List (List ℕ)
-texts q = once bytes_eq [] (flat texts_in (constants q))
+  -- the mentioned places of a type, each once
+  abbrev pub places_with : Ty → List Spot
+  places_with t = once same_spot [] (of_type t mentioned)
+
+  -- the constants of a query, in order
+  abbrev pub constants : List Value
+  constants = flat constants_of (atoms_of_all q.conjuncts)
+
+  -- the Ints of its constants
+  abbrev pub numbers : List ℤ
+  numbers = flat numbers_in constants
+
+  -- the texts of its constants, each once, by first appearance
+  abbrev pub texts : List (List ℕ)
+  texts = once bytes_eq [] (flat texts_in constants)

@@ -5,8 +5,8 @@ use Rattle.txs_terms.specs.declared.term.Term as rust
 use Rattle.txs_terms.specs.Action.{Action, Scope, IsAction}
 use Rattle.txs_terms.specs.Term.{Term}
 use Rattle.txs_terms.specs.Rules.{In, Model}
-use Rattle.txs_terms.specs.After.{Sync, Observable, acted, quiescence, here, After, Out}
-use Rattle.txs_terms.specs.Sets.{IsAfter, CanDo, IsInt, IsPlain, ArePlain}
+use Rattle.txs_terms.specs.After.{Sync, Observable, acted, quiescence, here, After, CanDo, Out}
+use Rattle.txs_terms.specs.Sets.{IsAfter, IsInt, IsPlain, ArePlain}
 use Rattle.txs_terms.specs.Moves.{moves_of, all_moves, speaks, quiet_ones}
 use Rattle.txs_terms.specs.View.{term_of, terms_of}
 use Rattle.txs_terms.proofs.Members.{in_front, in_back, in_either}

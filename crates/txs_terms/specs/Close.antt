@@ -35,46 +35,47 @@ abbrev pub inner_rests : List Item → List Term
 inner_rests [] = []
 inner_rests (i ∷ is) = inner_rest i.kind i.rest ++ inner_rests is
 
--- the targets of the members' internal items, with the nodes of all their menus
-abbrev pub Targets : Model → Scope → List Term → List Term → ℕ → Type 0
-Targets model scope [] us nodes = (us ≡ []) × (nodes ≡ 0)
-Targets model scope (t ∷ set) us nodes =
-    (n : ℕ) × (items : List Item) × (vs : List Term) × (k : ℕ) × (menu model scope t ≡ walked n items) × Targets model scope set vs k
-    × (us ≡ inner_rests items ++ vs) × (nodes ≡ items_nodes items + k)
-
 -- a set with more terms, each that is not there yet
 abbrev pub Adds : List Term → List Term → List Term → Type 0
 Adds set [] more = more ≡ set
 Adds set (u ∷ us) more = In u set × Adds set us more ⊎ ((In u set → ⊥) × Adds (set ++ u ∷ []) us more)
-
--- the menu of some member ends with this fault
-abbrev pub HasFault : Model → Scope → List Term → MenuFault → Type 0
-HasFault model scope set s = (t : Term) × In t set × (menu model scope t ≡ faulted s)
-
--- Eval goes before Unfixed, and this before Wide
-abbrev pub IsFault : Model → Scope → List Term → MenuFault → Type 0
-IsFault model scope set eval_fault = HasFault model scope set eval_fault
-IsFault model scope set unfixed = HasFault model scope set unfixed × (HasFault model scope set eval_fault → ⊥)
-IsFault model scope set wide =
-    (HasFault model scope set wide ⊎ ((us : List Term) × (k : ℕ) × Targets model scope set us k × (ltb menus_node_limit k ≡ true)))
-    × (HasFault model scope set eval_fault → ⊥) × (HasFault model scope set unfixed → ⊥)
 
 pub data Closing : Type 0 where
   too_deep : ℕ → Closing
   faulty_set : MenuFault → Closing
   closed : List Term → Closing
 
--- what closing a set gives, from this level on
-pub data Closes (model : Model) (scope : Scope) : ℕ → List Term → Closing → Type 0 where
-  large : {level : ℕ} {set : List Term} → is_large set ≡ true → Closes model scope level set (too_deep level)
-  member_faults : {level : ℕ} {set : List Term} {s : MenuFault}
-      → is_large set ≡ false → IsFault model scope set s → Closes model scope level set (faulty_set s)
-  done : {level : ℕ} {set : List Term} (us : List Term) (nodes : ℕ)
-      → is_large set ≡ false → Targets model scope set us nodes → ltb menus_node_limit nodes ≡ false
-      → Adds set us set → Closes model scope level set (closed set)
-  next : {level : ℕ} {set : List Term} {r : Closing} (us more : List Term) (nodes : ℕ)
-      → is_large set ≡ false → Targets model scope set us nodes → ltb menus_node_limit nodes ≡ false
-      → Adds set us more → more ≢ set → Closes model scope (suc level) more r → Closes model scope level set r
+module _ (model : Model) (scope : Scope) where
+  -- the targets of the members' internal items, with the nodes of all their menus
+  abbrev pub Targets : List Term → List Term → ℕ → Type 0
+  Targets [] us nodes = (us ≡ []) × (nodes ≡ 0)
+  Targets (t ∷ set) us nodes =
+      (n : ℕ) × (items : List Item) × (vs : List Term) × (k : ℕ) × (menu model scope t ≡ walked n items) × Targets set vs k
+      × (us ≡ inner_rests items ++ vs) × (nodes ≡ items_nodes items + k)
+
+  -- the menu of some member ends with this fault
+  abbrev pub HasFault : List Term → MenuFault → Type 0
+  HasFault set s = (t : Term) × In t set × (menu model scope t ≡ faulted s)
+
+  -- Eval goes before Unfixed, and this before Wide
+  abbrev pub IsFault : List Term → MenuFault → Type 0
+  IsFault set eval_fault = HasFault set eval_fault
+  IsFault set unfixed = HasFault set unfixed × (HasFault set eval_fault → ⊥)
+  IsFault set wide =
+      (HasFault set wide ⊎ ((us : List Term) × (k : ℕ) × Targets set us k × (ltb menus_node_limit k ≡ true)))
+      × (HasFault set eval_fault → ⊥) × (HasFault set unfixed → ⊥)
+
+  -- what closing a set gives, from this level on
+  pub data Closes : ℕ → List Term → Closing → Type 0 where
+    large : {level : ℕ} {set : List Term} → is_large set ≡ true → Closes level set (too_deep level)
+    member_faults : {level : ℕ} {set : List Term} {s : MenuFault}
+        → is_large set ≡ false → IsFault set s → Closes level set (faulty_set s)
+    done : {level : ℕ} {set : List Term} (us : List Term) (nodes : ℕ)
+        → is_large set ≡ false → Targets set us nodes → ltb menus_node_limit nodes ≡ false
+        → Adds set us set → Closes level set (closed set)
+    next : {level : ℕ} {set : List Term} {r : Closing} (us more : List Term) (nodes : ℕ)
+        → is_large set ≡ false → Targets set us nodes → ltb menus_node_limit nodes ≡ false
+        → Adds set us more → more ≢ set → Closes (suc level) more r → Closes level set r
 
 -- ---- moving by an action
 
@@ -104,14 +105,15 @@ abbrev pub moved_items : Defs → Action → List Item → Option (List Term)
 moved_items defs a [] = Some []
 moved_items defs a (i ∷ is) = and_terms (moved_by defs a (is_on (channels a) i.kind) i) (moved_items defs a is)
 
--- members in order and items in order
-abbrev pub Moves : Model → Scope → Action → List Term → Option (List Term) → Type 0
-Moves model scope a [] r = r ≡ Some []
-Moves model scope a (t ∷ set) r =
-    (n : ℕ) × (items : List Item) × (rest : Option (List Term)) × (menu model scope t ≡ walked n items) × Moves model scope a set rest
-    × (r ≡ and_terms (moved_items model.defs a items) rest)
+module _ (model : Model) (scope : Scope) (a : Action) where
+  -- members in order and items in order
+  abbrev pub Moves : List Term → Option (List Term) → Type 0
+  Moves [] r = r ≡ Some []
+  Moves (t ∷ set) r =
+      (n : ℕ) × (items : List Item) × (rest : Option (List Term)) × (menu model scope t ≡ walked n items) × Moves set rest
+      × (r ≡ and_terms (moved_items model.defs a items) rest)
 
--- what moving a set by an action gives: a fault, where some guard on its channels faults, or a set without repeats
-pub data MovesTo (model : Model) (scope : Scope) (a : Action) (set : List Term) : Option (List Term) → Type 0 where
-  faults_somewhere : Moves model scope a set None → MovesTo model scope a set None
-  moves_to : (us more : List Term) → Moves model scope a set (Some us) → Adds [] us more → MovesTo model scope a set (Some more)
+  -- what moving a set by an action gives: a fault, where some guard on its channels faults, or a set without repeats
+  pub data MovesTo (set : List Term) : Option (List Term) → Type 0 where
+    faults_somewhere : Moves set None → MovesTo set None
+    moves_to : (us more : List Term) → Moves set (Some us) → Adds [] us more → MovesTo set (Some more)

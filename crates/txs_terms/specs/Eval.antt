@@ -94,18 +94,18 @@ divided divide x y = in_range (int_div x y)
 divided remainder x y = in_range (int_rem x y)
 divided _ x y = broken wrong
 
-abbrev pub whole_binary : Binary → ℤ → ℤ → Outcome
-whole_binary plus x y = in_range (x +ℤ y)
-whole_binary minus x y = in_range (x -ℤ y)
-whole_binary times x y = in_range (x *ℤ y)
-whole_binary divide x y = divided divide x y
-whole_binary remainder x y = divided remainder x y
-whole_binary less_than x y = fine (bool (int_lt x y))
-whole_binary at_most x y = fine (bool (int_le x y))
-whole_binary more_than x y = fine (bool (int_lt y x))
-whole_binary at_least x y = fine (bool (int_le y x))
-whole_binary differ x y = fine (bool (not (same_value (num x) (num y))))
-whole_binary _ x y = broken wrong
+abbrev pub integer_binary : Binary → ℤ → ℤ → Outcome
+integer_binary plus x y = in_range (x +ℤ y)
+integer_binary minus x y = in_range (x -ℤ y)
+integer_binary times x y = in_range (x *ℤ y)
+integer_binary divide x y = divided divide x y
+integer_binary remainder x y = divided remainder x y
+integer_binary less_than x y = fine (bool (int_lt x y))
+integer_binary at_most x y = fine (bool (int_le x y))
+integer_binary more_than x y = fine (bool (int_lt y x))
+integer_binary at_least x y = fine (bool (int_le y x))
+integer_binary differ x y = fine (bool (not (same_value (num x) (num y))))
+integer_binary _ x y = broken wrong
 
 abbrev pub text_binary : Binary → List ℕ → List ℕ → Outcome
 text_binary concat a b = sized (text (a ++ b))
@@ -117,7 +117,7 @@ other_binary differ x y = fine (bool (not (same_value x y)))
 other_binary _ x y = broken wrong
 
 abbrev pub binary : Binary → Value → Value → Outcome
-binary o (num x) (num y) = whole_binary o x y
+binary o (num x) (num y) = integer_binary o x y
 binary o (text a) (text b) = text_binary o a b
 binary char_at (text a) (num i) = char_from a i
 binary o x y = other_binary o x y
@@ -163,38 +163,40 @@ abbrev pub body_run : Option Expr → (Expr → Run) → Run
 body_run None go = bad wrong
 body_run (Some e) go = go e
 
--- one node, which is entered; `ev` evaluates one level below it
-abbrev pub node : Defs → Eval → Expr → ℕ → Run
-node defs ev (val v) n = got v n
-node defs ev (slot i) n = bad wrong
-node defs ev (local i) n = bad wrong
-node defs ev (constant k) n = body_run (slice_get defs.constants k) (λ e. ev e n)
-node defs ev (one o a) n = then_run (ev a n) (λ x. after (unary defs.table o x))
-node defs ev (two o a b) n = then_run (ev a n) (λ x m. then_run (ev b m) (λ y. after (binary o x y)))
-node defs ev (equal a b) n = then_run (ev a n) (λ x m. then_run (ev b m) (λ y. got (bool (same_value x y))))
-node defs ev (both a b) n = then_run (ev a n) (λ x m. if_true x (ev b m) (got (bool false) m))
-node defs ev (either a b) n = then_run (ev a n) (λ x m. if_true x (got (bool true) m) (ev b m))
-node defs ev (choose c a b) n = then_run (ev c n) (λ x m. if_true x (ev a m) (ev b m))
-node defs ev (apply f es) n =
-    then_runs (each ev es n) (λ vs m. body_run (slice_get defs.functions f) (λ e. ev (put (filled vs) e) m))
-node defs ev (build c es) n = then_runs (each ev es n) (λ vs. after (sized (cons c (packed vs))))
-node defs ev (let_in x a b) n = then_run (ev a n) (λ v. ev (with_local v b))
-
--- the value of an expression, where `left` more levels may be entered and `n` nodes were
-abbrev pub run : Defs → ℕ → Eval
-run defs zero e n = bad high
-run defs (suc left) e n = cond (ltb n node_limit) (node defs (run defs left) e (suc n)) (bad long)
-
-abbrev pub eval : Defs → Expr → Run
-eval defs e = run defs height_limit e 0
-
-abbrev pub Gives : Defs → Expr → Value → Type 0
-Gives defs e v = (n : ℕ) × (eval defs e ≡ got v n)
+module _ (defs : Defs) (ev : Eval) where
+  -- one node, which is entered; `ev` evaluates one level below it
+  abbrev pub node : Expr → ℕ → Run
+  node (val v) n = got v n
+  node (slot i) n = bad wrong
+  node (local i) n = bad wrong
+  node (constant k) n = body_run (slice_get defs.constants k) (λ e. ev e n)
+  node (one o a) n = then_run (ev a n) (λ x. after (unary defs.table o x))
+  node (two o a b) n = then_run (ev a n) (λ x m. then_run (ev b m) (λ y. after (binary o x y)))
+  node (equal a b) n = then_run (ev a n) (λ x m. then_run (ev b m) (λ y. got (bool (same_value x y))))
+  node (both a b) n = then_run (ev a n) (λ x m. if_true x (ev b m) (got (bool false) m))
+  node (either a b) n = then_run (ev a n) (λ x m. if_true x (got (bool true) m) (ev b m))
+  node (choose c a b) n = then_run (ev c n) (λ x m. if_true x (ev a m) (ev b m))
+  node (apply f es) n =
+      then_runs (each ev es n) (λ vs m. body_run (slice_get defs.functions f) (λ e. ev (put (filled vs) e) m))
+  node (build c es) n = then_runs (each ev es n) (λ vs. after (sized (cons c (packed vs))))
+  node (let_in x a b) n = then_run (ev a n) (λ v. ev (with_local v b))
 
 abbrev pub bool_true : Value
 bool_true = bool true
 
--- each conjunct gives True
-abbrev pub Hold : Defs → List Expr → Type 0
-Hold defs [] = Unit {0}
-Hold defs (e ∷ es) = Gives defs e bool_true × Hold defs es
+module _ (defs : Defs) where
+  -- the value of an expression, where `left` more levels may be entered and `n` nodes were
+  abbrev pub run : ℕ → Eval
+  run zero e n = bad high
+  run (suc left) e n = cond (ltb n node_limit) (node defs (run left) e (suc n)) (bad long)
+
+  abbrev pub eval : Expr → Run
+  eval e = run height_limit e 0
+
+  abbrev pub Gives : Expr → Value → Type 0
+  Gives e v = (n : ℕ) × (eval e ≡ got v n)
+
+  -- each conjunct gives True
+  abbrev pub Hold : List Expr → Type 0
+  Hold [] = Unit {0}
+  Hold (e ∷ es) = Gives e bool_true × Hold es

@@ -89,10 +89,11 @@ and_then (got (text bs) n) rest = faults
 and_then (got (cons c vs) n) rest = faults
 and_then (bad f) rest = faults
 
--- the first that is False or faults decides
-abbrev pub judge : Defs → List Expr → Verdict
-judge defs [] = holds
-judge defs (e ∷ es) = and_then (eval defs e) (judge defs es)
+module _ (defs : Defs) where
+  -- the first that is False or faults decides
+  abbrev pub judge : List Expr → Verdict
+  judge [] = holds
+  judge (e ∷ es) = and_then (eval defs e) (judge es)
 
 abbrev pub with_slots : List Expr → List Expr
 with_slots [] = []
@@ -137,11 +138,6 @@ with_value (bad f) o = None
 with_value (got v n) None = None
 with_value (got v n) (Some vs) = Some (v ∷ vs)
 
--- the values of the expressions, if none faults
-abbrev pub all_values : Defs → List Expr → Option (List Value)
-all_values defs [] = Some []
-all_values defs (e ∷ es) = with_value (eval defs e) (all_values defs es)
-
 abbrev pub with_front : Value → Option (List Value) → Option (List Value)
 with_front v None = None
 with_front v (Some vs) = Some (v ∷ vs)
@@ -150,30 +146,36 @@ abbrev pub then_bound : Run → (Value → Option (List Value)) → Option (List
 then_bound (bad f) go = None
 then_bound (got v n) go = with_front v (go v)
 
--- the values of the bindings of a LET in order, if none faults; each sees the values before it
-abbrev pub bound_values : Defs → List Value → List Expr → Option (List Value)
-bound_values defs before [] = Some []
-bound_values defs before (e ∷ es) = then_bound (eval defs (put (filled before) e)) (λ v. bound_values defs (before ++ v ∷ []) es)
-
 abbrev pub fixed_by : ℕ → Run → Option (List Expr) → Option (List Expr)
 fixed_by i (bad f) o = None
 fixed_by i (got v n) None = None
 fixed_by i (got v n) (Some gs) = Some (equal (slot i) (val v) ∷ gs)
-
--- `slot == value` for each `!`, the slots counted from this one
-abbrev pub fixes : Defs → ℕ → List Position → Option (List Expr)
-fixes defs i [] = Some []
-fixes defs i (take x ∷ ps) = fixes defs (suc i) ps
-fixes defs i (give e ∷ ps) = fixed_by i (eval defs e) (fixes defs (suc i) ps)
 
 abbrev pub both_lists : Option (List Expr) → Option (List Expr) → Option (List Expr)
 both_lists None o = None
 both_lists (Some gs) None = None
 both_lists (Some gs) (Some hs) = Some (gs ++ hs)
 
-abbrev pub all_fixes : Defs → Scope → Channels → List Offer → Option (List Expr)
-all_fixes defs scope cs [] = Some []
-all_fixes defs scope cs (o ∷ os) = both_lists (fixes defs (start scope cs o.channel) o.positions) (all_fixes defs scope cs os)
+module _ (defs : Defs) where
+  -- the values of the expressions, if none faults
+  abbrev pub all_values : List Expr → Option (List Value)
+  all_values [] = Some []
+  all_values (e ∷ es) = with_value (eval defs e) (all_values es)
+
+  -- the values of the bindings of a LET in order, if none faults; each sees the values before it
+  abbrev pub bound_values : List Value → List Expr → Option (List Value)
+  bound_values before [] = Some []
+  bound_values before (e ∷ es) = then_bound (eval defs (put (filled before) e)) (λ v. bound_values (before ++ v ∷ []) es)
+
+  -- `slot == value` for each `!`, the slots counted from this one
+  abbrev pub fixes : ℕ → List Position → Option (List Expr)
+  fixes i [] = Some []
+  fixes i (take x ∷ ps) = fixes (suc i) ps
+  fixes i (give e ∷ ps) = fixed_by i (eval defs e) (fixes (suc i) ps)
+
+  abbrev pub all_fixes : Scope → Channels → List Offer → Option (List Expr)
+  all_fixes scope cs [] = Some []
+  all_fixes scope cs (o ∷ os) = both_lists (fixes (start scope cs o.channel) o.positions) (all_fixes scope cs os)
 
 abbrev pub prefix_item : Scope → Channels → List ℕ → List Expr → List Expr → Term → Item
 prefix_item scope cs ps fixed gs t = record {
@@ -210,24 +212,9 @@ wrapped wrap i = record { kind = i.kind; guards = i.guards; rest = wrap i.kind i
 abbrev pub alone : Channels → (Kind → Term → Term) → Item → List Item
 alone gates wrap i = cond (goes_alone gates i.kind) (wrapped wrap i ∷ []) []
 
--- what one side becomes beside the other
-abbrev pub left_of : Scope → Channels → Term → Kind → Term → Term
-left_of scope gates b k t = par gates t (beside scope k b)
-
-abbrev pub right_of : Scope → Channels → Term → Kind → Term → Term
-right_of scope gates a k t = par gates (beside scope k a) t
-
 -- the slots of an item on these channels, as slots of one on all
 abbrev pub among : Scope → Channels → Channels → Puts
 among scope all cs = moved (places scope all cs) (width scope all)
-
--- two items as one on all these channels
-abbrev pub join_on : Scope → Channels → Channels → Channels → Channels → Item → Item → Item
-join_on scope gates all xs ys i j = record {
-  kind = on all;
-  guards = put_all (among scope all xs) i.guards ++ put_all (among scope all ys) j.guards;
-  rest = par gates (put_term (among scope all xs) i.rest) (put_term (among scope all ys) j.rest);
-}
 
 abbrev pub same_values : List Value → List Value → Bool
 same_values [] [] = true
@@ -238,24 +225,40 @@ same_values (v ∷ vs) (w ∷ ws) = same_value v w && same_values vs ws
 abbrev pub join_ends : List Value → Item → Item → Item
 join_ends vs i j = record { kind = ending vs; guards = i.guards ++ j.guards; rest = stop }
 
-abbrev pub join_kinds : Scope → Channels → Kind → Kind → Item → Item → List Item
-join_kinds scope gates (on xs) (on ys) i j = cond (joins gates xs ys) (join_on scope gates (union xs ys) xs ys i j ∷ []) []
-join_kinds scope gates (on xs) within i j = []
-join_kinds scope gates (on xs) (ending ws) i j = []
-join_kinds scope gates within k i j = []
-join_kinds scope gates (ending vs) (on ys) i j = []
-join_kinds scope gates (ending vs) within i j = []
-join_kinds scope gates (ending vs) (ending ws) i j =
-    cond (same_values vs ws) (join_ends vs i j ∷ []) []
+module _ (scope : Scope) (gates : Channels) where
+  -- what one side becomes beside the other
+  abbrev pub left_of : Term → Kind → Term → Term
+  left_of b k t = par gates t (beside scope k b)
 
-abbrev pub join : Scope → Channels → Item → Item → List Item
-join scope gates i j = join_kinds scope gates i.kind j.kind i j
+  abbrev pub right_of : Term → Kind → Term → Term
+  right_of a k t = par gates (beside scope k a) t
 
-abbrev pub par_items : Scope → Channels → Term → Term → List Item → List Item → List Item
-par_items scope gates a b is js =
-    gather (alone gates (left_of scope gates b)) is
-    ++ (gather (alone gates (right_of scope gates a)) js
-    ++ gather (λ i. gather (join scope gates i) js) is)
+  -- two items as one on all these channels
+  abbrev pub join_on : Channels → Channels → Channels → Item → Item → Item
+  join_on all xs ys i j = record {
+    kind = on all;
+    guards = put_all (among scope all xs) i.guards ++ put_all (among scope all ys) j.guards;
+    rest = par gates (put_term (among scope all xs) i.rest) (put_term (among scope all ys) j.rest);
+  }
+
+  abbrev pub join_kinds : Kind → Kind → Item → Item → List Item
+  join_kinds (on xs) (on ys) i j = cond (joins gates xs ys) (join_on (union xs ys) xs ys i j ∷ []) []
+  join_kinds (on xs) within i j = []
+  join_kinds (on xs) (ending ws) i j = []
+  join_kinds within k i j = []
+  join_kinds (ending vs) (on ys) i j = []
+  join_kinds (ending vs) within i j = []
+  join_kinds (ending vs) (ending ws) i j =
+      cond (same_values vs ws) (join_ends vs i j ∷ []) []
+
+  abbrev pub join : Item → Item → List Item
+  join i j = join_kinds i.kind j.kind i j
+
+  abbrev pub par_items : Term → Term → List Item → List Item → List Item
+  par_items a b is js =
+      gather (alone gates (left_of b)) is
+      ++ (gather (alone gates (right_of a)) js
+      ++ gather (λ i. gather (join i) js) is)
 
 -- ---- enable
 
@@ -296,63 +299,31 @@ back_to scope t i = back_kind scope t i.kind i
 abbrev pub only : ℕ → Value → Puts
 only s v i = cond (eqb s i) (val v) (slot i)
 
--- the slot that this conjunct fixes, with the expression
-abbrev pub fix_by : List ℕ → ℕ → Expr → Option (ℕ × Expr)
-fix_by loose s e = cond (has loose s && not (has_slot e)) (Some (s, e)) None
-
 abbrev pub or_else : Option (ℕ × Expr) → Option (ℕ × Expr) → Option (ℕ × Expr)
 or_else None o = o
 or_else (Some p) o = Some p
 
-abbrev pub fix_right : List ℕ → Expr → Expr → Option (ℕ × Expr)
-fix_right loose e (slot s) = fix_by loose s e
-fix_right loose e (val v) = None
-fix_right loose e (local s) = None
-fix_right loose e (constant k) = None
-fix_right loose e (one o a) = None
-fix_right loose e (two o a a') = None
-fix_right loose e (equal a a') = None
-fix_right loose e (both a a') = None
-fix_right loose e (either a a') = None
-fix_right loose e (choose c a a') = None
-fix_right loose e (apply f es) = None
-fix_right loose e (build k es) = None
-fix_right loose e (let_in x a a') = None
+module _ (loose : List ℕ) where
+  -- the slot that this conjunct fixes, with the expression
+  abbrev pub fix_by : ℕ → Expr → Option (ℕ × Expr)
+  fix_by s e = cond (has loose s && not (has_slot e)) (Some (s, e)) None
 
-abbrev pub fix_equal : List ℕ → Expr → Expr → Option (ℕ × Expr)
-fix_equal loose (slot s) b = or_else (fix_by loose s b) (fix_right loose (slot s) b)
-fix_equal loose (val v) b = fix_right loose (val v) b
-fix_equal loose (local s) b = fix_right loose (local s) b
-fix_equal loose (constant k) b = fix_right loose (constant k) b
-fix_equal loose (one o a) b = fix_right loose (one o a) b
-fix_equal loose (two o a a') b = fix_right loose (two o a a') b
-fix_equal loose (equal a a') b = fix_right loose (equal a a') b
-fix_equal loose (both a a') b = fix_right loose (both a a') b
-fix_equal loose (either a a') b = fix_right loose (either a a') b
-fix_equal loose (choose c a a') b = fix_right loose (choose c a a') b
-fix_equal loose (apply f es) b = fix_right loose (apply f es) b
-fix_equal loose (build k es) b = fix_right loose (build k es) b
-fix_equal loose (let_in x a a') b = fix_right loose (let_in x a a') b
+  abbrev pub fix_right : Expr → Expr → Option (ℕ × Expr)
+  fix_right e (slot s) = fix_by s e
+  fix_right e _ = None
 
-abbrev pub fix_of : List ℕ → Expr → Option (ℕ × Expr)
-fix_of loose (equal a b) = fix_equal loose a b
-fix_of loose (val v) = None
-fix_of loose (slot s) = None
-fix_of loose (local s) = None
-fix_of loose (constant k) = None
-fix_of loose (one o a) = None
-fix_of loose (two o a a') = None
-fix_of loose (both a a') = None
-fix_of loose (either a a') = None
-fix_of loose (choose c a a') = None
-fix_of loose (apply f es) = None
-fix_of loose (build k es) = None
-fix_of loose (let_in x a a') = None
+  abbrev pub fix_equal : Expr → Expr → Option (ℕ × Expr)
+  fix_equal (slot s) b = or_else (fix_by s b) (fix_right (slot s) b)
+  fix_equal a b = fix_right a b
 
--- the first conjunct that fixes one of the loose slots
-abbrev pub next_fix : List ℕ → List Expr → Option (ℕ × Expr)
-next_fix loose [] = None
-next_fix loose (g ∷ gs) = or_else (fix_of loose g) (next_fix loose gs)
+  abbrev pub fix_of : Expr → Option (ℕ × Expr)
+  fix_of (equal a b) = fix_equal a b
+  fix_of _ = None
+
+  -- the first conjunct that fixes one of the loose slots
+  abbrev pub next_fix : List Expr → Option (ℕ × Expr)
+  next_fix [] = None
+  next_fix (g ∷ gs) = or_else (fix_of g) (next_fix gs)
 
 abbrev pub put_in : ℕ → Value → Item → Item
 put_in s v i = record { kind = i.kind; guards = put_all (only s v) i.guards; rest = put_term (only s v) i.rest }
@@ -482,41 +453,43 @@ abbrev pub machine_walk : Option Automaton → ℕ → ℕ → (Channels → Mov
 machine_walk None q n go = walked n []
 machine_walk (Some a) q n go = state_walk (slice_get a.states q) n (go a.formals)
 
--- one node, which is met; `go` walks the terms below it
-abbrev pub level : Model → Walks → Walks
-level model go scope stop n = walked n []
-level model go scope (exits es) n =
-    where_some (all_values model.defs es) (λ vs. walked n (record { kind = ending vs; guards = []; rest = stop } ∷ []))
-level model go scope (prefix os gs t) n = prefix_level model scope os gs t n
-level model go scope (step gs t) n = step_level model gs t n
-level model go scope (guard gs t) n = where_holds (judge model.defs gs) n (go scope t n)
-level model go scope (choice a b) n =
-    then_walk (go scope a n) (λ m is. then_walk (go scope b m) (λ k js. walked k (is ++ js)))
-level model go scope (par gates a b) n =
-    then_walk (go scope a n) (λ m is. then_walk (go scope b m) (λ k js. walked k (par_items scope gates a b is js)))
-level model go scope (enable a xs b) n = then_walk (go scope a n) (λ m is. walked m (map (pass scope xs b) is))
-level model go scope (disable a b) n =
-    then_walk (go scope a n) (λ m is. then_walk (go scope b m) (λ k js. walked k (map (disabled scope b) is ++ js)))
-level model go scope (interrupt a b) n =
-    then_walk (go scope a n) (λ m is. then_walk (go scope b m)
-    (λ k js. walked k (map (interrupted scope b) is ++ map (back_to scope (interrupt a b)) js)))
-level model go scope (hide hs t) n =
-    then_walk (go (scope ++ hs) t n) (λ m is. hidden_walk m (hide_all model.defs scope hs is))
-level model go scope (call p cs es) n =
-    where_some (all_values model.defs es)
-    (λ vs. body_walk (slice_get model.bodies p) (length scope) n (λ body. go scope (instance cs vs (length scope) body) n))
-level model go scope (bind xs es t) n = where_some (bound_values model.defs [] es) (λ vs. go scope (fill vs t) n)
-level model go scope (machine k cs es q) n =
-    where_some (all_values model.defs es)
-    (λ vs. machine_walk (slice_get model.automata k) q n
-    (λ formals m. move_level model scope (instance cs vs (length scope) (move_term k formals m)) n))
-level model go scope hit n = walked n []
-level model go scope miss n = walked n []
+module _ (model : Model) (go : Walks) where
+  -- one node, which is met; `go` walks the terms below it
+  abbrev pub level : Walks
+  level scope stop n = walked n []
+  level scope (exits es) n =
+      where_some (all_values model.defs es) (λ vs. walked n (record { kind = ending vs; guards = []; rest = stop } ∷ []))
+  level scope (prefix os gs t) n = prefix_level model scope os gs t n
+  level scope (step gs t) n = step_level model gs t n
+  level scope (guard gs t) n = where_holds (judge model.defs gs) n (go scope t n)
+  level scope (choice a b) n =
+      then_walk (go scope a n) (λ m is. then_walk (go scope b m) (λ k js. walked k (is ++ js)))
+  level scope (par gates a b) n =
+      then_walk (go scope a n) (λ m is. then_walk (go scope b m) (λ k js. walked k (par_items scope gates a b is js)))
+  level scope (enable a xs b) n = then_walk (go scope a n) (λ m is. walked m (map (pass scope xs b) is))
+  level scope (disable a b) n =
+      then_walk (go scope a n) (λ m is. then_walk (go scope b m) (λ k js. walked k (map (disabled scope b) is ++ js)))
+  level scope (interrupt a b) n =
+      then_walk (go scope a n) (λ m is. then_walk (go scope b m)
+      (λ k js. walked k (map (interrupted scope b) is ++ map (back_to scope (interrupt a b)) js)))
+  level scope (hide hs t) n =
+      then_walk (go (scope ++ hs) t n) (λ m is. hidden_walk m (hide_all model.defs scope hs is))
+  level scope (call p cs es) n =
+      where_some (all_values model.defs es)
+      (λ vs. body_walk (slice_get model.bodies p) (length scope) n (λ body. go scope (instance cs vs (length scope) body) n))
+  level scope (bind xs es t) n = where_some (bound_values model.defs [] es) (λ vs. go scope (fill vs t) n)
+  level scope (machine k cs es q) n =
+      where_some (all_values model.defs es)
+      (λ vs. machine_walk (slice_get model.automata k) q n
+      (λ formals m. move_level model scope (instance cs vs (length scope) (move_term k formals m)) n))
+  level scope hit n = walked n []
+  level scope miss n = walked n []
 
--- the walk of a term, where a path may meet `left` more nodes and `n` nodes were met
-abbrev pub walk : Model → ℕ → Walks
-walk model zero scope t n = faulted wide
-walk model (suc left) scope t n = cond (ltb n walk_limit) (then_walk (level model (walk model left) scope t (suc n)) capped) (faulted wide)
+module _ (model : Model) where
+  -- the walk of a term, where a path may meet `left` more nodes and `n` nodes were met
+  abbrev pub walk : ℕ → Walks
+  walk zero scope t n = faulted wide
+  walk (suc left) scope t n = cond (ltb n walk_limit) (then_walk (level model (walk left) scope t (suc n)) capped) (faulted wide)
 
-abbrev pub menu : Model → Scope → Term → Walk
-menu model scope t = walk model path_limit scope t 0
+  abbrev pub menu : Scope → Term → Walk
+  menu scope t = walk path_limit scope t 0

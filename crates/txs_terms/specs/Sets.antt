@@ -2,18 +2,15 @@
 use Rattle.std.specs.Prelude.{◌≡◌, ◌↔◌, ℕ, ◌+◌, true, nat_lt, List, [], ◌∷◌}
 use Rattle.txs_values.specs.Value.{integer, Value, num, fits}
 use Rattle.txs_terms.specs.Expr.{Expr, val, slot}
-use Rattle.txs_terms.specs.Action.{Action, act, Scope, types_on}
+use Rattle.txs_terms.specs.Action.{Action, Scope, types_on}
 use Rattle.txs_terms.specs.Term.{Position, give, take, Offer, Term, stop, prefix, choice}
-use Rattle.txs_terms.specs.Rules.{In, Model, Step}
+use Rattle.txs_terms.specs.Rules.{In, Model}
+pub use Rattle.txs_terms.specs.After.{CanDo}
 use Rattle.txs_terms.specs.After.{Sync, Observable, After}
 
 -- the list has the terms after the trace, and no others
 abbrev pub IsAfter : Model → Scope → Sync → Term → List Observable → List Term → Type 0
 IsAfter model scope sync b trace set = (t : Term) → In t set ↔ After model scope sync b trace t
-
--- some term after the trace does the action
-abbrev pub CanDo : Model → Scope → Sync → Term → List Observable → Action → Type 0
-CanDo model scope sync b trace a = (t : Term) × (t' : Term) × After model scope sync b trace t × Step model scope t (act a) t'
 
 -- the channel has one position, of type Int
 abbrev pub IsInt : Scope → ℕ → Type 0

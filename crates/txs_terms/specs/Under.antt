@@ -33,24 +33,26 @@ with_variable env v = record { slots = env.slots; locals = env.locals ++ v ∷ [
 abbrev pub parameters : List Value → Environment
 parameters vs = record { slots = vs; locals = [] }
 
--- one node, which is entered; `ev` evaluates one level below it
-abbrev pub node_under : Defs → Under → Environment → Expr → ℕ → Run
-node_under defs ev env (val v) n = got v n
-node_under defs ev env (slot i) n = looked_up (slice_get env.slots i) n
-node_under defs ev env (local i) n = looked_up (slice_get env.locals i) n
-node_under defs ev env (constant k) n = body_run (slice_get defs.constants k) (λ e. ev (parameters []) e n)
-node_under defs ev env (one o a) n = then_run (ev env a n) (λ x. after (unary defs.table o x))
-node_under defs ev env (two o a b) n = then_run (ev env a n) (λ x m. then_run (ev env b m) (λ y. after (binary o x y)))
-node_under defs ev env (equal a b) n = then_run (ev env a n) (λ x m. then_run (ev env b m) (λ y. got (bool (same_value x y))))
-node_under defs ev env (both a b) n = then_run (ev env a n) (λ x m. if_true x (ev env b m) (got (bool false) m))
-node_under defs ev env (either a b) n = then_run (ev env a n) (λ x m. if_true x (got (bool true) m) (ev env b m))
-node_under defs ev env (choose c a b) n = then_run (ev env c n) (λ x m. if_true x (ev env a m) (ev env b m))
-node_under defs ev env (apply f es) n =
-    then_runs (each_under (ev env) (operands es) n) (λ vs m. body_run (slice_get defs.functions f) (λ e. ev (parameters vs) e m))
-node_under defs ev env (build c es) n = then_runs (each_under (ev env) (operands es) n) (λ vs. after (sized (cons c (packed vs))))
-node_under defs ev env (let_in x a b) n = then_run (ev env a n) (λ v. ev (with_variable env v) b)
+module _ (defs : Defs) (ev : Under) (env : Environment) where
+  -- one node, which is entered; `ev` evaluates one level below it
+  abbrev pub node_under : Expr → ℕ → Run
+  node_under (val v) n = got v n
+  node_under (slot i) n = looked_up (slice_get env.slots i) n
+  node_under (local i) n = looked_up (slice_get env.locals i) n
+  node_under (constant k) n = body_run (slice_get defs.constants k) (λ e. ev (parameters []) e n)
+  node_under (one o a) n = then_run (ev env a n) (λ x. after (unary defs.table o x))
+  node_under (two o a b) n = then_run (ev env a n) (λ x m. then_run (ev env b m) (λ y. after (binary o x y)))
+  node_under (equal a b) n = then_run (ev env a n) (λ x m. then_run (ev env b m) (λ y. got (bool (same_value x y))))
+  node_under (both a b) n = then_run (ev env a n) (λ x m. if_true x (ev env b m) (got (bool false) m))
+  node_under (either a b) n = then_run (ev env a n) (λ x m. if_true x (got (bool true) m) (ev env b m))
+  node_under (choose c a b) n = then_run (ev env c n) (λ x m. if_true x (ev env a m) (ev env b m))
+  node_under (apply f es) n =
+      then_runs (each_under (ev env) (operands es) n) (λ vs m. body_run (slice_get defs.functions f) (λ e. ev (parameters vs) e m))
+  node_under (build c es) n = then_runs (each_under (ev env) (operands es) n) (λ vs. after (sized (cons c (packed vs))))
+  node_under (let_in x a b) n = then_run (ev env a n) (λ v. ev (with_variable env v) b)
 
--- the value of an expression under these values, where `left` more levels may be entered and `n` nodes were
-abbrev pub run_under : Defs → ℕ → Under
-run_under defs zero env e n = bad high
-run_under defs (suc left) env e n = cond (ltb n node_limit) (node_under defs (run_under defs left) env e (suc n)) (bad long)
+module _ (defs : Defs) where
+  -- the value of an expression under these values, where `left` more levels may be entered and `n` nodes were
+  abbrev pub run_under : ℕ → Under
+  run_under zero env e n = bad high
+  run_under (suc left) env e n = cond (ltb n node_limit) (node_under defs (run_under left) env e (suc n)) (bad long)

@@ -3,8 +3,8 @@ ghost use Rattle.txs_values.specs.View.{value_of, values_of};
 ghost use Rattle.txs_terms.specs.Action.{Scope, IsAction};
 ghost use Rattle.txs_terms.specs.Term.{Term as Behaviour};
 ghost use Rattle.txs_terms.specs.Rules.{Model};
-ghost use Rattle.txs_terms.specs.After.{Sync, Observable, acted, quiescence, Out};
-ghost use Rattle.txs_terms.specs.Sets.{IsAfter, CanDo, IsInt, IsPlain, ArePlain, IsIntAction};
+ghost use Rattle.txs_terms.specs.After.{Sync, Observable, acted, quiescence, CanDo, Out};
+ghost use Rattle.txs_terms.specs.Sets.{IsAfter, IsInt, IsPlain, ArePlain, IsIntAction};
 ghost use Rattle.txs_terms.specs.Moves.{is_number, admits, met_by, offers_met, moves_of, all_moves, is_offered, speaks, quiet_ones};
 ghost use Rattle.txs_terms.specs.View.{expr_of, position_of, offers_of, part_of, action_of, tree_of, term_of, terms_of};
 

@@ -252,10 +252,10 @@ types_known_at table [] c h = tt
 types_known_at table (ts ∷ hs) zero h = h.0
 types_known_at table (ts ∷ hs) (suc c) h = types_known_at table hs c h.1
 
-types_behind : (table : Table) (scope hs : Scope) (c : ℕ) → length scope ≤ c → AreScope table hs → AreTypes table (types_on (scope ++ hs) c)
-types_behind table [] hs c l h = types_known_at table hs c h
-types_behind table (ts ∷ scope) hs zero l h = absurd (omega arith)
-types_behind table (ts ∷ scope) hs (suc c) l h = types_behind table scope hs c (let k : length scope ≤ c = omega arith in k) h
+types_later : (table : Table) (scope hs : Scope) (c : ℕ) → length scope ≤ c → AreScope table hs → AreTypes table (types_on (scope ++ hs) c)
+types_later table [] hs c l h = types_known_at table hs c h
+types_later table (ts ∷ scope) hs zero l h = absurd (omega arith)
+types_later table (ts ∷ scope) hs (suc c) l h = types_later table scope hs c (let k : length scope ≤ c = omega arith in k) h
 
 module _ (facts : Facts) (model : Model) (scope hs : Scope) (known : IsTable model.defs.table) (types_known : AreScope model.defs.table hs) where
   abbrev everything : Scope
@@ -289,7 +289,7 @@ module _ (facts : Facts) (model : Model) (scope hs : Scope) (known : IsTable mod
   begun_typed_on y c true e t h =
       subst (HaveTypes model.defs.table (values_on y c)) (sym (types_front scope hs c (ltb-true c level' e))) (typed_on model.defs.table scope y c t (h refl))
   begun_typed_on y c false e t h =
-      typed_defaults (types_on everything c) (types_behind model.defs.table scope hs c (ltb-false c level' e) types_known)
+      typed_defaults (types_on everything c) (types_later model.defs.table scope hs c (ltb-false c level' e) types_known)
 
   visible_has : (c : ℕ) (cs ys : Channels) (b : Bool) → ltb c level' ≡ b → Within (cond b (c ∷ visible level' cs) (visible level' cs)) ys
       → (ltb c level' ≡ true → has ys c ≡ true) × Within (visible level' cs) ys

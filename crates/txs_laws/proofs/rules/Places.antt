@@ -26,18 +26,18 @@ Picked-append vs [] qs (u ∷ us) ws a b = absurd a
 Picked-append vs (p ∷ ps) qs [] ws a b = absurd a
 Picked-append vs (p ∷ ps) qs (u ∷ us) ws a b = (a.0, Picked-append vs ps qs us ws a.1 b)
 
-filled_behind : (us vs : List Value) (i : ℕ) → filled (us ++ vs) (i + length us) ≡ filled vs i
-filled_behind [] vs i = let e : i + 0 ≡ i = omega arith in ap (filled vs) e
-filled_behind (u ∷ us) vs i =
+filled_later : (us vs : List Value) (i : ℕ) → filled (us ++ vs) (i + length us) ≡ filled vs i
+filled_later [] vs i = let e : i + 0 ≡ i = omega arith in ap (filled vs) e
+filled_later (u ∷ us) vs i =
     let e : i + length (u ∷ us) ≡ suc (i + length us) = omega arith in
-    rw e (filled_behind us vs i)
+    rw e (filled_later us vs i)
 
 -- the values at the front stand from slot 0 on
 front : (us ws vs : List Value) → Picked (us ++ (ws ++ vs)) (from (length us) (length ws)) ws
 front us [] vs = tt
 front us (w ∷ ws) vs =
     let z : 0 + length us ≡ length us = omega arith in
-    let here = filled_behind us (w ∷ (ws ++ vs)) 0 in
+    let here = filled_later us (w ∷ (ws ++ vs)) 0 in
     let there = front (us ++ w ∷ []) ws vs in
     let n : length (us ++ w ∷ []) ≡ suc (length us) = omega (arith, length-append us (w ∷ [])) in
     let l = append_shift us w (ws ++ vs) in (
@@ -50,15 +50,15 @@ front us (w ∷ ws) vs =
     append_shift [] y ys = refl
     append_shift (x ∷ xs) y ys = ap (λ zs. x ∷ zs) (append_shift xs y ys)
 
--- later slots, behind more values
-behind : (us vs : List Value) (i n : ℕ) (ws : List Value) → Picked vs (from i n) ws → Picked (us ++ vs) (from (length us + i) n) ws
-behind us vs i zero [] h = tt
-behind us vs i zero (w ∷ ws) h = h
-behind us vs i (suc n) [] h = h
-behind us vs i (suc n) (w ∷ ws) h =
+-- later slots, after more values
+later : (us vs : List Value) (i n : ℕ) (ws : List Value) → Picked vs (from i n) ws → Picked (us ++ vs) (from (length us + i) n) ws
+later us vs i zero [] h = tt
+later us vs i zero (w ∷ ws) h = h
+later us vs i (suc n) [] h = h
+later us vs i (suc n) (w ∷ ws) h =
     let e : length us + i ≡ i + length us = omega arith in
     let s : length us + suc i ≡ suc (length us + i) = omega arith in
-    (rw e (filled_behind us vs i ∙ h.0), subst (λ m. Picked (us ++ vs) (from m n) ws) s (behind us vs (suc i) n ws h.1))
+    (rw e (filled_later us vs i ∙ h.0), subst (λ m. Picked (us ++ vs) (from m n) ws) s (later us vs (suc i) n ws h.1))
 
 at_first : (table : Table) → (scope : Scope) (p : Part) (ps : Action) (c : ℕ) (b : Bool) → eqb p.channel c ≡ b → IsTyped table scope (p ∷ ps)
     → (b ≡ false → Picked (values ps) (from (start scope (channels ps) c) (arity scope c)) (values_on ps c))
@@ -72,7 +72,7 @@ at_first table scope p ps c true e t go =
 at_first table scope p ps c false e t go =
     let n = HaveTypes-length table p.values (types_on scope p.channel) t.0 in
     subst (λ k. Picked (values (p ∷ ps)) (from (k + start scope (channels ps) c) (arity scope c)) (values_on ps c)) n
-    (behind p.values (values ps) (start scope (channels ps) c) (arity scope c) (values_on ps c) (go refl))
+    (later p.values (values ps) (start scope (channels ps) c) (arity scope c) (values_on ps c) (go refl))
 
 not_first : (b c : Bool) → (b || c) ≡ true → b ≡ false → c ≡ true
 not_first true c h e = cc

@@ -100,9 +100,9 @@ at_offer table scope a o t h n =
     (on_channel table scope a o.channel t h)
 
 -- as many positions as the channel has types
-abbrev AreWhole : Scope → List Offer → Type 0
-AreWhole scope [] = Unit {0}
-AreWhole scope (o ∷ os) = (length o.positions ≡ arity scope o.channel) × AreWhole scope os
+abbrev HaveArity : Scope → List Offer → Type 0
+HaveArity scope [] = Unit {0}
+HaveArity scope (o ∷ os) = (length o.positions ≡ arity scope o.channel) × HaveArity scope os
 
 fit_length : (table : Table) (signatures : Signatures) (slots : List Ty) (ps : List Position) (ts : List Ty)
     → FitPositions table signatures slots ps ts → length ps ≡ length ts
@@ -113,14 +113,14 @@ fit_length table signatures slots (take x ∷ ps) [] f = absurd f
 fit_length table signatures slots (give e ∷ ps) (t ∷ ts) f = ap suc (fit_length table signatures slots ps ts f.1)
 fit_length table signatures slots (take x ∷ ps) (t ∷ ts) f = ap suc (fit_length table signatures slots ps ts f)
 
-are_whole : (table : Table) (signatures : Signatures) (scope : Scope) (slots : List Ty) (os : List Offer)
-    → FitOffers table signatures scope slots os → AreWhole scope os
-are_whole table signatures scope slots [] f = tt
-are_whole table signatures scope slots (o ∷ os) f =
-    (fit_length table signatures slots o.positions (types_on scope o.channel) f.1, are_whole table signatures scope slots os f.2)
+have_arity : (table : Table) (signatures : Signatures) (scope : Scope) (slots : List Ty) (os : List Offer)
+    → FitOffers table signatures scope slots os → HaveArity scope os
+have_arity table signatures scope slots [] f = tt
+have_arity table signatures scope slots (o ∷ os) f =
+    (fit_length table signatures slots o.positions (types_on scope o.channel) f.1, have_arity table signatures scope slots os f.2)
 
 meet_all : (defs : Defs) (scope : Scope) (a : Action) (os : List Offer) (gs : List Expr) → IsTyped defs.table scope a
-    → Within (offered os) (channels a) → AreWhole scope os → AllFixes defs scope (channels a) os gs
+    → Within (offered os) (channels a) → HaveArity scope os → AllFixes defs scope (channels a) os gs
     → Hold defs (put_all (filled (values a)) gs) → MeetAll defs os a
 meet_all defs scope a [] gs t h w f k = tt
 meet_all defs scope a (o ∷ os) gs t h w f k =
@@ -134,7 +134,7 @@ meet_all defs scope a (o ∷ os) gs t h w f k =
     )
 
 fix_all : (defs : Defs) (scope : Scope) (a : Action) (os : List Offer) (gs : List Expr) → IsTyped defs.table scope a
-    → Within (offered os) (channels a) → AreWhole scope os → AllFixes defs scope (channels a) os gs
+    → Within (offered os) (channels a) → HaveArity scope os → AllFixes defs scope (channels a) os gs
     → MeetAll defs os a → Hold defs (put_all (filled (values a)) gs)
 fix_all defs scope a [] gs t h w f m = subst (λ xs. Hold defs (put_all (filled (values a)) xs)) (sym f) tt
 fix_all defs scope a (o ∷ os) gs t h w f m =
@@ -150,7 +150,7 @@ module _ (model : Model) (scope : Scope) (os : List Offer) (gs : List Expr) (t :
   item_at cs fixed = prefix_item scope cs (places scope cs (offered os)) fixed gs t
 
   -- at an action's own channels
-  sound_at : (a : Action) (fixed : List Expr) → channels a ≡ in_order (offered os) → AreWhole scope os
+  sound_at : (a : Action) (fixed : List Expr) → channels a ≡ in_order (offered os) → HaveArity scope os
       → AllFixes model.defs scope (channels a) os fixed → Hold model.defs (without_slots gs) → IsAction model.defs.table scope a
       → Hold model.defs (put_all (filled (values a)) (item_at (channels a) fixed).guards)
       → Step model scope (prefix os gs t) (act a) (fill (values a) (item_at (channels a) fixed).rest)
@@ -174,7 +174,7 @@ module _ (model : Model) (scope : Scope) (os : List Offer) (gs : List Expr) (t :
   on_inj : {xs ys : Channels} → on xs ≡ on ys → xs ≡ ys
   on_inj e = cc
 
-  sound_by : (cs : Channels) (fixed : List Expr) → cs ≡ in_order (offered os) → AreWhole scope os
+  sound_by : (cs : Channels) (fixed : List Expr) → cs ≡ in_order (offered os) → HaveArity scope os
       → AllFixes model.defs scope cs os fixed → Hold model.defs (without_slots gs)
       → (l : Label) → Does model scope (item_at cs fixed) l → Step model scope (prefix os gs t) l (fill (given l) (item_at cs fixed).rest)
   sound_by cs fixed e w f c (act a) d =
@@ -185,7 +185,7 @@ module _ (model : Model) (scope : Scope) (os : List Offer) (gs : List Expr) (t :
   sound_by cs fixed e w f c inner d = let k = d.kind in cc
   sound_by cs fixed e w f c (ends vs) d = let k = d.kind in cc
 
-  prefix_sound : (cs : Channels) (fixed : List Expr) → cs ≡ in_order (offered os) → AreWhole scope os
+  prefix_sound : (cs : Channels) (fixed : List Expr) → cs ≡ in_order (offered os) → HaveArity scope os
       → AllFixes model.defs scope cs os fixed → Hold model.defs (without_slots gs)
       → IsSound model scope (prefix os gs t) (item_at cs fixed ∷ [])
   prefix_sound cs fixed e w f c i l (inr h) d = absurd h
@@ -194,7 +194,7 @@ module _ (model : Model) (scope : Scope) (os : List Offer) (gs : List Expr) (t :
       (sound_by cs fixed e w f c l (subst (λ j. Does model scope j l) q d))
 
   -- the action has the item's form
-  found_at : (a : Action) (fixed : List Expr) → channels a ≡ in_order (offered os) → AreWhole scope os
+  found_at : (a : Action) (fixed : List Expr) → channels a ≡ in_order (offered os) → HaveArity scope os
       → AllFixes model.defs scope (channels a) os fixed → IsAction model.defs.table scope a → MeetAll model.defs os a
       → Hold model.defs (put_all (filled (values_over a (offered os))) gs)
       → Found model scope (item_at (channels a) fixed ∷ []) (act a) (fill (values_over a (offered os)) t)
@@ -217,7 +217,7 @@ module _ (model : Model) (scope : Scope) (os : List Offer) (gs : List Expr) (t :
         rest = fill_moved (values a) ps (values_over a (offered os)) _ size picked t;
       }
 
-  prefix_complete : (cs : Channels) (fixed : List Expr) → cs ≡ in_order (offered os) → AreWhole scope os
+  prefix_complete : (cs : Channels) (fixed : List Expr) → cs ≡ in_order (offered os) → HaveArity scope os
       → AllFixes model.defs scope cs os fixed → IsComplete model scope (prefix os gs t) (item_at cs fixed ∷ [])
   prefix_complete cs fixed e w f l t' (offers a ca ty m h) =
       let k : channels a ≡ cs = ca ∙ sym e in
@@ -228,9 +228,9 @@ module _ (model : Model) (scope : Scope) (os : List Offer) (gs : List Expr) (t :
   no_step e l t' (offers a ca ty m h) =
       let k = holds_judge model.defs (without_slots gs) (closed_part model.defs (filled (values_over a (offered os))) gs h) in absurd (cc)
 
-  whole_means : (n k : ℕ) (is : List Item) → AreWhole scope os → is_empty (offered os) ≡ false
+  arity_means : (n k : ℕ) (is : List Item) → HaveArity scope os → is_empty (offered os) ≡ false
       → prefix_walk model.defs scope (in_order (offered os)) os gs t n ≡ walked k is → Means model scope (prefix os gs t) is
-  whole_means n k is w some e =
+  arity_means n k is w some e =
       let p = all_fixes_from model.defs scope (in_order (offered os)) os _ k is e in
       elim (where_holds_from (judge model.defs (without_slots gs)) n _ k is p.2) [
         | inl q ↦ subst (Means model scope (prefix os gs t)) (walked_items n k _ is q.1) (
@@ -244,4 +244,4 @@ module _ (model : Model) (scope : Scope) (os : List Offer) (gs : List Expr) (t :
   pub prefix_means : (signatures : Signatures) (n k : ℕ) (is : List Item) → FitOffers model.defs.table signatures scope [] os
       → is_empty (offered os) ≡ false → prefix_walk model.defs scope (in_order (offered os)) os gs t n ≡ walked k is
       → Means model scope (prefix os gs t) is
-  prefix_means signatures n k is f some e = whole_means n k is (are_whole model.defs.table signatures scope [] os f) some e
+  prefix_means signatures n k is f some e = arity_means n k is (have_arity model.defs.table signatures scope [] os f) some e

@@ -70,9 +70,9 @@ numbers_there q p = flat (λ s. number_at (value_there p s)) (places_with q inte
 pub texts_there : Query → List Value → List Text
 texts_there q p = flat (λ s. text_there (value_there p s)) (places_with q string)
 
-few_whole : (q : Query) (p : List Value) → length (numbers_there q p) ≤ length (places_with q integer)
+few_integers : (q : Query) (p : List Value) → length (numbers_there q p) ≤ length (places_with q integer)
 unfolding numbers_there
-few_whole q p = few_flat (λ s. number_at (value_there p s)) (places_with q integer) (λ s. few_numbers (value_there p s))
+few_integers q p = few_flat (λ s. number_at (value_there p s)) (places_with q integer) (λ s. few_numbers (value_there p s))
 
 few_string : (q : Query) (p : List Value) → length (texts_there q p) ≤ length (places_with q string)
 unfolding texts_there
@@ -96,7 +96,7 @@ IsText q p t = In t (texts q) ⊎ In t (texts_there q p)
 
 lands : (q : Query) (p : List Value) → ConstantsFit q → Lands (shape q p) (IsText q p) (pools_of q)
 lands q p h = record {
-  numbers = λ x f. pressed_candidate (length (places_with q integer)) (numbers q) (numbers_there q p) x (few_whole q p) h f;
+  numbers = λ x f. pressed_candidate (length (places_with q integer)) (numbers q) (numbers_there q p) x (few_integers q p) h f;
   texts = λ t k. renamed_candidate (length (places_with q string)) (texts q) (texts_there q p) t (few_string q p) k;
 }
 
@@ -130,11 +130,11 @@ keeps q p = record {
 
 -- ---- what is known at mentioned places
 
-whole_of : (table : Table) (x : ℤ) (u : Ty) → has_type table (num x) u ≡ true → u ≡ integer
-whole_of table x integer e = refl
-whole_of table x truth e = cc
-whole_of table x string e = cc
-whole_of table x (named k) e = cc
+integer_of : (table : Table) (x : ℤ) (u : Ty) → has_type table (num x) u ≡ true → u ≡ integer
+integer_of table x integer e = refl
+integer_of table x truth e = cc
+integer_of table x string e = cc
+integer_of table x (named k) e = cc
 
 string_of : (table : Table) (t : Text) (u : Ty) → has_type table (text t) u ≡ true → u ≡ string
 string_of table x integer e = cc
@@ -147,7 +147,7 @@ unfolding numbers_there texts_there number_at text_there value_there
 known_at q p h i = (
   (λ r x m f.
       let t = place_typed q p h (spot i r) (num x) f in
-      let e = whole_of q.defs.table x t.0 t.2 in
+      let e = integer_of q.defs.table x t.0 t.2 in
       let o = In_places q integer (spot i r) (ap (is_type integer) (t.1 ∙ ap Some e)) (paths_In i r (mentioned q) m) in
       inr (In_flat (λ s. number_at (value_there p s)) (spot i r) x (places_with q integer) o (subst (λ (z : Option Value). In x (number_at z)) (sym f) (inl refl)))),
   (λ r x m f.

@@ -9,7 +9,7 @@ use Rattle.txs_terms.specs.Eval.{Defs, Run, got, bad, long, run, eval, then_run,
 use Rattle.txs_terms.specs.Expr.{Binary, plus, minus, times, divide, remainder, concat, differ, less_than, at_most, more_than, at_least, char_at, Expr, val, slot, local, constant, one, two, equal, both, either, choose, apply, build, let_in, put, put_all, filled, has_slot}
 use Rattle.txs_terms.specs.Rules.{In}
 use Rattle.txs_guard.specs.Atom.{fixed_value, value_in}
-use Rattle.txs_guard.specs.Bounds.{Bound, number_in, low, high, sign_bounds, turned, with_number, left_bounds, bounds_of, bounds_for, greatest, up_by, from_to, between, plain_made, every_value, every_slot, bounded_case}
+use Rattle.txs_guard.specs.Bounds.{Bound, number_in, low, high, operator_bounds, turned, with_number, left_bounds, bounds_of, bounds_for, greatest, up_by, from_to, between, plain_made, every_value, every_slot, bounded_case}
 use Rattle.txs_guard.specs.Candidates.{cells, count_made, fields_of, least, run_up}
 use Rattle.txs_guard.specs.Mentioned.{flat}
 use Rattle.txs_guard.specs.Point.{IsPoint, IsTrueAt}
@@ -199,7 +199,7 @@ bound_high p i k w b x e h f go =
     let s : slice_get p i ≡ Some (num x) = ap (λ (z : Bound). slice_get p z.of_slot) (sym h) ∙ f in
     subst (λ (z : Bound). cond z.is_low (z.value ≤ℤ x) (x ≤ℤ z.value)) (sym h) (go (number_there p i w x e s))
 
-left_says : (o : Binary) → Says (λ x y. binary o x y ≡ fine (bool true)) (sign_bounds o)
+left_says : (o : Binary) → Says (λ x y. binary o x y ≡ fine (bool true)) (operator_bounds o)
 left_says less_than p i k w b r e (inl h) x f =
     bound_high p i (k -ℤ pos 1) w b x e h f (λ n. let t : int_lt x k ≡ true = fine_true (ap (λ (z : Value). binary less_than z (num k)) (sym n) ∙ r) in
     let u : x <ℤ k = grind (arith, ints) in omega (arith, ints))
@@ -223,7 +223,7 @@ left_says concat p i k w b r e h x f = absurd h
 left_says differ p i k w b r e h x f = absurd h
 left_says char_at p i k w b r e h x f = absurd h
 
-right_says : (o : Binary) → Says (λ x y. binary o y x ≡ fine (bool true)) (sign_bounds (turned o))
+right_says : (o : Binary) → Says (λ x y. binary o y x ≡ fine (bool true)) (operator_bounds (turned o))
 right_says more_than p i k w b r e (inl h) x f =
     bound_high p i (k -ℤ pos 1) w b x e h f (λ n. let t : int_lt x k ≡ true = fine_true (ap (λ (z : Value). binary more_than (num k) z) (sym n) ∙ r) in
     let u : x <ℤ k = grind (arith, ints) in omega (arith, ints))
@@ -278,12 +278,12 @@ two_keeps : (q : Query) (p : List Value) (o : Binary) (a c : Expr) (b : Bound) �
 two_keeps q p o a c b g h =
     let s = two_sides q.defs p o a c height_limit 0 g.0 g.1 in
     let t = after_fine (binary o s.left s.right) (bool true) s.end s.last s.made_true in
-    elim (In-append b (left_bounds q a c (sign_bounds o)) (left_bounds q c a (sign_bounds (turned o))) h) [
-      | inl x ↦ (let l = left_bound q a c (sign_bounds o) b x in
+    elim (In-append b (left_bounds q a c (operator_bounds o)) (left_bounds q c a (operator_bounds (turned o))) h) [
+      | inl x ↦ (let l = left_bound q a c (operator_bounds o) b x in
           let y = closed_value q p c (num l.number) l.fixed s.height s.mid s.end s.right s.right_run in
           left_says o p l.of_slot l.number s.left b (ap (binary o s.left) (sym y) ∙ t)
           (slot_value q.defs p l.of_slot s.height s.from s.mid s.left (side_run q.defs p a (slot l.of_slot) s.height s.from s.mid s.left l.slot_is s.left_run)) l.among)
-      | inr x ↦ (let l = left_bound q c a (sign_bounds (turned o)) b x in
+      | inr x ↦ (let l = left_bound q c a (operator_bounds (turned o)) b x in
           let y = closed_value q p a (num l.number) l.fixed s.height s.from s.mid s.left s.left_run in
           right_says o p l.of_slot l.number s.right b (ap (λ (z : Value). binary o z s.right) (sym y) ∙ t)
           (slot_value q.defs p l.of_slot s.height s.mid s.end s.right (side_run q.defs p c (slot l.of_slot) s.height s.mid s.end s.right l.slot_is s.right_run)) l.among)

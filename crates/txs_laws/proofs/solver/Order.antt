@@ -4,10 +4,10 @@ use Rattle.std.specs.Prelude.{Option, Some, None, slice_get}
 use Rattle.std.specs.Str.{bytes_eq}
 use Rattle.std.proofs.lemmas.Bool.{and_parts, or_cases, both_ways, eqb-true}
 use Rattle.txs_values.specs.Value.{Ty, integer, truth, string, named, Value, num, bool, text, cons, same_value, has_type}
-use Rattle.txs_terms.specs.Eval.{Run, got, bad, long, run, eval, then_run, after, unary, binary, Outcome, fine, node_limit}
+use Rattle.txs_terms.specs.Eval.{Run, got, bad, long, run, eval, then_run, after, unary, binary, Outcome, fine, broken, wrong, integer_binary, node_limit}
 use Rattle.txs_terms.specs.Expr.{negate, negation, to_text, from_text, len, is_made_by, select, Binary, plus, minus, times, divide, remainder, concat, differ, less_than, at_most, more_than, at_least, char_at, Expr, val, slot, local, constant, one, two, equal, both, either, choose, apply, build, let_in, put, filled, has_slot}
 use Rattle.txs_terms.specs.Rules.{In}
-use Rattle.txs_guard.specs.Atom.{has_value, fixed_value, value_in, is_equality, is_integer_side, is_comparison, is_order_sign, is_order_atom, all_order, atoms_of_all}
+use Rattle.txs_guard.specs.Atom.{has_value, fixed_value, value_in, is_equality, is_integer_side, is_comparison, is_order_operator, is_order_atom, all_order, atoms_of_all}
 use Rattle.txs_guard.specs.Candidates.{cells, order_candidates, least}
 use Rattle.txs_guard.specs.Mentioned.{Path, flat, some_list, sides_of, constants_of, constants, numbers, texts, numbers_in, texts_in, mentioned, paths_at}
 use Rattle.txs_guard.specs.Place.{Spot, spot_of, spot_type, is_type, same_ty, is_plain, same_types, has_spot}
@@ -16,7 +16,7 @@ use Rattle.txs_guard.specs.Query.{Query}
 use Rattle.txs_laws.specs.Cells.{EndsAlike, EndAlike}
 use Rattle.txs_laws.proofs.rules.Tests.{put_closed, same_value-true, same_value_refl}
 use Rattle.std.specs.Cmp.Lexicographic.{bytes_decides}
-use Rattle.txs_laws.proofs.solver.Press.{least_is, pressed_order, pressed_fixed}
+use Rattle.txs_laws.proofs.solver.Press.{SameOrder, least_is, pressed_order, pressed_fixed}
 use Rattle.txs_laws.proofs.solver.Texts.{Text}
 use Rattle.txs_laws.proofs.solver.Squash.{squash, along, In_along, follow, Known, Within, squashed_same}
 use Rattle.txs_laws.proofs.solver.Members.{In_flat}
@@ -96,98 +96,69 @@ sym_same x y = go (same_value x y) (same_value y x) refl refl
     go true false e h = let q = same_value-true x y e in absurd (both_ways _ h (ap (λ (z : Value). same_value y z) q ∙ same_value_refl y))
     go false true e h = let q = same_value-true y x h in absurd (both_ways _ e (ap (λ (z : Value). same_value x z) q ∙ same_value_refl x))
 
+-- the Int that a value is
+abbrev integer_in : Value → Option ℤ
+integer_in (num x) = Some x
+integer_in _ = None
+
 -- an Int that keeps its order, or another value that stays
 data NumberLike (q : Query) (p : List Value) (f : Value → Value) : Value → Type 0 where
   as_number : (x : ℤ) → f (num x) ≡ num ((shape q p).number x) → IsNumber q p x → NumberLike q p f (num x)
-  as_truth : (b : Bool) → f (bool b) ≡ bool b → NumberLike q p f (bool b)
-  as_text : (t : Text) → f (text t) ≡ text t → NumberLike q p f (text t)
-  as_made : (c : ℕ) (vs : _) → f (cons c vs) ≡ cons c vs → NumberLike q p f (cons c vs)
+  as_other : (v : Value) → integer_in v ≡ None → f v ≡ v → NumberLike q p f v
 
-mixed : (o : Binary) {a a' b b' : Value} → a ≡ a' → b ≡ b' → binary o a b ≡ binary o a' b'
-mixed o e d = cc
+-- what an order operator gives by the Ints that its sides are
+abbrev by_integers : Binary → Option ℤ → Option ℤ → Outcome
+by_integers o None b = broken wrong
+by_integers o (Some x) None = broken wrong
+by_integers o (Some x) (Some y) = integer_binary o x y
 
-sign_agree : (q : Query) (p : List Value) (f g : Value → Value) (o : Binary) → is_order_sign o ≡ true → {x y : Value}
-    → NumberLike q p f x → NumberLike q p g y → binary o (f x) (g y) ≡ binary o x y
-sign_agree q p f g less_than s (as_number x e h) (as_number y d k) =
-    let o = pressed_order (least (pos 0) (numbers q)) (pos 0 ∷ numbers q) (numbers_there q p) x y (least_is (pos 0) (numbers q)) h k in
-    rw (e, d) (ap (λ (z : Bool). fine (bool z)) o.0)
-sign_agree q p f g at_most s (as_number x e h) (as_number y d k) =
-    let o = pressed_order (least (pos 0) (numbers q)) (pos 0 ∷ numbers q) (numbers_there q p) x y (least_is (pos 0) (numbers q)) h k in
-    rw (e, d) (ap (λ (z : Bool). fine (bool z)) o.2)
-sign_agree q p f g more_than s (as_number x e h) (as_number y d k) =
-    let o = pressed_order (least (pos 0) (numbers q)) (pos 0 ∷ numbers q) (numbers_there q p) x y (least_is (pos 0) (numbers q)) h k in
-    rw (e, d) (ap (λ (z : Bool). fine (bool z)) o.1)
-sign_agree q p f g at_least s (as_number x e h) (as_number y d k) =
-    let o = pressed_order (least (pos 0) (numbers q)) (pos 0 ∷ numbers q) (numbers_there q p) x y (least_is (pos 0) (numbers q)) h k in
-    rw (e, d) (ap (λ (z : Bool). fine (bool z)) o.3)
-sign_agree q p f g less_than s (as_number x e h) (as_truth y d) = mixed less_than e d
-sign_agree q p f g less_than s (as_number x e h) (as_text y d) = mixed less_than e d
-sign_agree q p f g less_than s (as_number x e h) (as_made y ys d) = mixed less_than e d
-sign_agree q p f g less_than s (as_truth x e) (as_number y d k) = mixed less_than e d
-sign_agree q p f g less_than s (as_truth x e) (as_truth y d) = mixed less_than e d
-sign_agree q p f g less_than s (as_truth x e) (as_text y d) = mixed less_than e d
-sign_agree q p f g less_than s (as_truth x e) (as_made y ys d) = mixed less_than e d
-sign_agree q p f g less_than s (as_text x e) (as_number y d k) = mixed less_than e d
-sign_agree q p f g less_than s (as_text x e) (as_truth y d) = mixed less_than e d
-sign_agree q p f g less_than s (as_text x e) (as_text y d) = mixed less_than e d
-sign_agree q p f g less_than s (as_text x e) (as_made y ys d) = mixed less_than e d
-sign_agree q p f g less_than s (as_made x xs e) (as_number y d k) = mixed less_than e d
-sign_agree q p f g less_than s (as_made x xs e) (as_truth y d) = mixed less_than e d
-sign_agree q p f g less_than s (as_made x xs e) (as_text y d) = mixed less_than e d
-sign_agree q p f g less_than s (as_made x xs e) (as_made y ys d) = mixed less_than e d
-sign_agree q p f g at_most s (as_number x e h) (as_truth y d) = mixed at_most e d
-sign_agree q p f g at_most s (as_number x e h) (as_text y d) = mixed at_most e d
-sign_agree q p f g at_most s (as_number x e h) (as_made y ys d) = mixed at_most e d
-sign_agree q p f g at_most s (as_truth x e) (as_number y d k) = mixed at_most e d
-sign_agree q p f g at_most s (as_truth x e) (as_truth y d) = mixed at_most e d
-sign_agree q p f g at_most s (as_truth x e) (as_text y d) = mixed at_most e d
-sign_agree q p f g at_most s (as_truth x e) (as_made y ys d) = mixed at_most e d
-sign_agree q p f g at_most s (as_text x e) (as_number y d k) = mixed at_most e d
-sign_agree q p f g at_most s (as_text x e) (as_truth y d) = mixed at_most e d
-sign_agree q p f g at_most s (as_text x e) (as_text y d) = mixed at_most e d
-sign_agree q p f g at_most s (as_text x e) (as_made y ys d) = mixed at_most e d
-sign_agree q p f g at_most s (as_made x xs e) (as_number y d k) = mixed at_most e d
-sign_agree q p f g at_most s (as_made x xs e) (as_truth y d) = mixed at_most e d
-sign_agree q p f g at_most s (as_made x xs e) (as_text y d) = mixed at_most e d
-sign_agree q p f g at_most s (as_made x xs e) (as_made y ys d) = mixed at_most e d
-sign_agree q p f g more_than s (as_number x e h) (as_truth y d) = mixed more_than e d
-sign_agree q p f g more_than s (as_number x e h) (as_text y d) = mixed more_than e d
-sign_agree q p f g more_than s (as_number x e h) (as_made y ys d) = mixed more_than e d
-sign_agree q p f g more_than s (as_truth x e) (as_number y d k) = mixed more_than e d
-sign_agree q p f g more_than s (as_truth x e) (as_truth y d) = mixed more_than e d
-sign_agree q p f g more_than s (as_truth x e) (as_text y d) = mixed more_than e d
-sign_agree q p f g more_than s (as_truth x e) (as_made y ys d) = mixed more_than e d
-sign_agree q p f g more_than s (as_text x e) (as_number y d k) = mixed more_than e d
-sign_agree q p f g more_than s (as_text x e) (as_truth y d) = mixed more_than e d
-sign_agree q p f g more_than s (as_text x e) (as_text y d) = mixed more_than e d
-sign_agree q p f g more_than s (as_text x e) (as_made y ys d) = mixed more_than e d
-sign_agree q p f g more_than s (as_made x xs e) (as_number y d k) = mixed more_than e d
-sign_agree q p f g more_than s (as_made x xs e) (as_truth y d) = mixed more_than e d
-sign_agree q p f g more_than s (as_made x xs e) (as_text y d) = mixed more_than e d
-sign_agree q p f g more_than s (as_made x xs e) (as_made y ys d) = mixed more_than e d
-sign_agree q p f g at_least s (as_number x e h) (as_truth y d) = mixed at_least e d
-sign_agree q p f g at_least s (as_number x e h) (as_text y d) = mixed at_least e d
-sign_agree q p f g at_least s (as_number x e h) (as_made y ys d) = mixed at_least e d
-sign_agree q p f g at_least s (as_truth x e) (as_number y d k) = mixed at_least e d
-sign_agree q p f g at_least s (as_truth x e) (as_truth y d) = mixed at_least e d
-sign_agree q p f g at_least s (as_truth x e) (as_text y d) = mixed at_least e d
-sign_agree q p f g at_least s (as_truth x e) (as_made y ys d) = mixed at_least e d
-sign_agree q p f g at_least s (as_text x e) (as_number y d k) = mixed at_least e d
-sign_agree q p f g at_least s (as_text x e) (as_truth y d) = mixed at_least e d
-sign_agree q p f g at_least s (as_text x e) (as_text y d) = mixed at_least e d
-sign_agree q p f g at_least s (as_text x e) (as_made y ys d) = mixed at_least e d
-sign_agree q p f g at_least s (as_made x xs e) (as_number y d k) = mixed at_least e d
-sign_agree q p f g at_least s (as_made x xs e) (as_truth y d) = mixed at_least e d
-sign_agree q p f g at_least s (as_made x xs e) (as_text y d) = mixed at_least e d
-sign_agree q p f g at_least s (as_made x xs e) (as_made y ys d) = mixed at_least e d
-sign_agree q p f g plus s a b = cc
-sign_agree q p f g minus s a b = cc
-sign_agree q p f g times s a b = cc
-sign_agree q p f g divide s a b = cc
-sign_agree q p f g remainder s a b = cc
-sign_agree q p f g concat s a b = cc
-sign_agree q p f g differ s a b = cc
-sign_agree q p f g char_at s a b = cc
+orders_integers : (o : Binary) → is_order_operator o ≡ true → (v w : Value) → binary o v w ≡ by_integers o (integer_in v) (integer_in w)
+orders_integers less_than s (num x) (num y) = refl
+orders_integers less_than s (text x) (text y) = refl
+orders_integers less_than s v w = refl
+orders_integers at_most s (num x) (num y) = refl
+orders_integers at_most s (text x) (text y) = refl
+orders_integers at_most s v w = refl
+orders_integers more_than s (num x) (num y) = refl
+orders_integers more_than s (text x) (text y) = refl
+orders_integers more_than s v w = refl
+orders_integers at_least s (num x) (num y) = refl
+orders_integers at_least s (text x) (text y) = refl
+orders_integers at_least s v w = refl
+orders_integers _ s v w = cc
+
+-- a side that is no Int decides
+left_wrong : (o : Binary) → is_order_operator o ≡ true → (v w : Value) → integer_in v ≡ None → binary o v w ≡ broken wrong
+left_wrong o s v w e = orders_integers o s v w ∙ ap (λ (a : Option ℤ). by_integers o a (integer_in w)) e
+
+right_wrong : (o : Binary) → is_order_operator o ≡ true → (v w : Value) → integer_in w ≡ None → binary o v w ≡ broken wrong
+right_wrong o s v w e = orders_integers o s v w ∙ ap (by_integers o (integer_in v)) e ∙ either_way (integer_in v)
+  where
+    either_way : (a : Option ℤ) → by_integers o a None ≡ broken wrong
+    either_way None = refl
+    either_way (Some x) = refl
+
+order_agrees : (q : Query) (p : List Value) (o : Binary) → is_order_operator o ≡ true → (x y : ℤ) → IsNumber q p x → IsNumber q p y
+    → integer_binary o ((shape q p).number x) ((shape q p).number y) ≡ integer_binary o x y
+order_agrees q p o s x y h k = by o s
+  where
+    kept : SameOrder x y ((shape q p).number x) ((shape q p).number y)
+    kept = pressed_order (least (pos 0) (numbers q)) (pos 0 ∷ numbers q) (numbers_there q p) x y (least_is (pos 0) (numbers q)) h k
+
+    by : (o : Binary) → is_order_operator o ≡ true → integer_binary o ((shape q p).number x) ((shape q p).number y) ≡ integer_binary o x y
+    by less_than s = ap (λ (z : Bool). fine (bool z)) kept.0
+    by at_most s = ap (λ (z : Bool). fine (bool z)) kept.2
+    by more_than s = ap (λ (z : Bool). fine (bool z)) kept.1
+    by at_least s = ap (λ (z : Bool). fine (bool z)) kept.3
+    by _ s = cc
+
+operators_agree : (q : Query) (p : List Value) (f g : Value → Value) (o : Binary) → is_order_operator o ≡ true → {v w : Value}
+    → NumberLike q p f v → NumberLike q p g w → binary o (f v) (g w) ≡ binary o v w
+operators_agree q p f g o s (as_number x e h) (as_number y d k) =
+    rw (e, d) (orders_integers o s (num ((shape q p).number x)) (num ((shape q p).number y)) ∙ order_agrees q p o s x y h k ∙ sym (orders_integers o s (num x) (num y)))
+operators_agree q p f g o s (as_number x e h) (as_other w n d) = rw (e, d) (right_wrong o s (num ((shape q p).number x)) w n ∙ sym (right_wrong o s (num x) w n))
+operators_agree q p f g o s (as_other v n e) (as_number y d k) = rw (e, d) (left_wrong o s v (num ((shape q p).number y)) n ∙ sym (left_wrong o s v (num y) n))
+operators_agree q p f g o s (as_other v n e) (as_other w m d) = rw (e, d) refl
 
 -- ---- the sides of an atom
 
@@ -374,7 +345,7 @@ module _ (q : Query) (p : List Value) (point : IsPoint q p) (e : Expr) (among : 
   abbrev IsNumberLike : Expr → (Value → Value) → Type 0
   IsNumberLike a f = (l m n : ℕ) (w : Value) → run q.defs l (put (filled p) a) m ≡ got w n → NumberLike q p f w
 
-  record WholeSide (a : Expr) : Type 0 where
+  record IntegerSide (a : Expr) : Type 0 where
     pub changes : Value → Value
     pub alike : (left n : ℕ) → run q.defs left (put (filled (cell_of q p)) a) n ≡ map_run changes (run q.defs left (put (filled p) a) n)
     pub like : IsNumberLike a changes
@@ -391,11 +362,11 @@ module _ (q : Query) (p : List Value) (point : IsPoint q p) (e : Expr) (among : 
   constant_like (num x) h =
       let i = numbers_among (num x) h x (inl refl) in
       as_number x (ap num (sym (pressed_fixed (least (pos 0) (numbers q)) (pos 0 ∷ numbers q) (numbers_there q p) x (least_is (pos 0) (numbers q)) (inr i)))) (inl (inr i))
-  constant_like (bool b) h = as_truth b refl
-  constant_like (text x) h = as_text x refl
-  constant_like (cons c vs) h = as_made c vs refl
+  constant_like (bool b) h = as_other (bool b) refl refl
+  constant_like (text x) h = as_other (text x) refl refl
+  constant_like (cons c vs) h = as_other (cons c vs) refl refl
 
-  fixed_side : (a : Expr) → In a (sides_of e) → has_value (fixed_value q a) ≡ true → WholeSide a
+  fixed_side : (a : Expr) → In a (sides_of e) → has_value (fixed_value q a) ≡ true → IntegerSide a
   fixed_side a ha h =
       let v = some_value (fixed_value q a) h in
       record {
@@ -404,7 +375,7 @@ module _ (q : Query) (p : List Value) (point : IsPoint q p) (e : Expr) (among : 
         like = λ l m n w r. subst (NumberLike q p (λ z. z)) (sym (closed_value a v.0 v.1 l m n w r)) (constant_like v.0 (constant_among a v.0 ha v.1));
       }
 
-  placed_side : (a : Expr) → In a (sides_of e) → (o : Option Spot) → spot_of a ≡ o → is_type integer (spot_type q o) ≡ true → WholeSide a
+  placed_side : (a : Expr) → In a (sides_of e) → (o : Option Spot) → spot_of a ≡ o → is_type integer (spot_type q o) ≡ true → IntegerSide a
   placed_side a ha None hs h = cc
   placed_side a ha (Some s) hs h =
       record {
@@ -413,19 +384,19 @@ module _ (q : Query) (p : List Value) (point : IsPoint q p) (e : Expr) (among : 
         like = λ l m n w r. place_like s w (typed_there a s integer hs (type_is integer (spot_type q (Some s)) h) l m n w r) (mention a s ha hs) (known_there a s hs l m n w r);
       }
 
-  whole_side : (a : Expr) → In a (sides_of e) → is_integer_side q a ≡ true → WholeSide a
-  whole_side a ha h = elim (or_cases _ _ h) [ inl x ↦ placed_side a ha (spot_of a) refl x | inr y ↦ fixed_side a ha y ]
+  integer_side : (a : Expr) → In a (sides_of e) → is_integer_side q a ≡ true → IntegerSide a
+  integer_side a ha h = elim (or_cases _ _ h) [ inl x ↦ placed_side a ha (spot_of a) refl x | inr y ↦ fixed_side a ha y ]
 
-  order_alike : (o : Binary) (a b : Expr) → is_order_sign o ≡ true → In a (sides_of e) → In b (sides_of e) → is_comparison q a b ≡ true
+  order_alike : (o : Binary) (a b : Expr) → is_order_operator o ≡ true → In a (sides_of e) → In b (sides_of e) → is_comparison q a b ≡ true
       → BothRun (λ x y. after (binary o x y)) a b
   order_alike o a b ho ha hb h left n =
       let x = and_parts (is_integer_side q a) (is_integer_side q b && (has_spot (spot_of a) || has_spot (spot_of b))) h in
       let y = and_parts (is_integer_side q b) (has_spot (spot_of a) || has_spot (spot_of b)) x.1 in
-      let s = whole_side a ha x.0 in
-      let t = whole_side b hb y.0 in
+      let s = integer_side a ha x.0 in
+      let t = integer_side b hb y.0 in
       two_alike (run q.defs left (put (filled p) a) n) (run q.defs left (put (filled (cell_of q p)) a) n)
       (run q.defs left (put (filled p) b)) (run q.defs left (put (filled (cell_of q p)) b)) s.changes t.changes (λ u v. after (binary o u v)) (s.alike left n) (t.alike left)
-      (λ u v m k r w. ap (λ (z : Outcome). after z k) (sign_agree q p s.changes t.changes o ho (s.like left n m u r) (t.like left m k v w)))
+      (λ u v m k r w. ap (λ (z : Outcome). after z k) (operators_agree q p s.changes t.changes o ho (s.like left n m u r) (t.like left m k v w)))
 
   -- ---- truth values and tests
 

@@ -8,7 +8,7 @@ use Rattle.txs_terms.specs.Expr.{Binary, plus, minus, times, divide, remainder, 
 use Rattle.txs_terms.specs.Rules.{In}
 use Rattle.txs_terms.specs.Typed.{Signatures, AreTyped, AreGuards}
 use Rattle.txs_guard.specs.Query.{Query}
-use Rattle.txs_guard.specs.Bounds.{Bound, low, high, sign_bounds, turned, left_bounds, bounds_of, bounds_for, greatest, up_by, from_to, between, plain_made, every_value, every_slot, bounded_case}
+use Rattle.txs_guard.specs.Bounds.{Bound, low, high, operator_bounds, turned, left_bounds, bounds_of, bounds_for, greatest, up_by, from_to, between, plain_made, every_value, every_slot, bounded_case}
 use Rattle.txs_guard.specs.Candidates.{cells, count_made, fields_of, least, run_up}
 use Rattle.txs_guard.specs.Mentioned.{flat}
 use Rattle.txs_guard.specs.Point.{IsPoint, IsTypedQuery}
@@ -43,19 +43,19 @@ same_fits i k b f h =
       | inr y ↦ high_fits i k k b f (omega (arith, ints)) y
     ]
 
-sign_fits : (o : Binary) → MakesFit (sign_bounds o)
-sign_fits less_than i k b f h = high_fits i (k -ℤ pos 1) k b f (omega (arith, ints)) h
-sign_fits at_most i k b f h = high_fits i k k b f (omega (arith, ints)) h
-sign_fits more_than i k b f h = low_fits i (k +ℤ pos 1) k b f (omega (arith, ints)) h
-sign_fits at_least i k b f h = low_fits i k k b f (omega (arith, ints)) h
-sign_fits plus i k b f h = absurd h
-sign_fits minus i k b f h = absurd h
-sign_fits times i k b f h = absurd h
-sign_fits divide i k b f h = absurd h
-sign_fits remainder i k b f h = absurd h
-sign_fits concat i k b f h = absurd h
-sign_fits differ i k b f h = absurd h
-sign_fits char_at i k b f h = absurd h
+operator_fits : (o : Binary) → MakesFit (operator_bounds o)
+operator_fits less_than i k b f h = high_fits i (k -ℤ pos 1) k b f (omega (arith, ints)) h
+operator_fits at_most i k b f h = high_fits i k k b f (omega (arith, ints)) h
+operator_fits more_than i k b f h = low_fits i (k +ℤ pos 1) k b f (omega (arith, ints)) h
+operator_fits at_least i k b f h = low_fits i k k b f (omega (arith, ints)) h
+operator_fits plus i k b f h = absurd h
+operator_fits minus i k b f h = absurd h
+operator_fits times i k b f h = absurd h
+operator_fits divide i k b f h = absurd h
+operator_fits remainder i k b f h = absurd h
+operator_fits concat i k b f h = absurd h
+operator_fits differ i k b f h = absurd h
+operator_fits char_at i k b f h = absurd h
 
 module _ (facts : Facts) (q : Query) (signatures : Signatures) (typed : AreTyped q.defs signatures) where
   left_fits : (a c : Expr) (go : ℕ → ℤ → List Bound) → MakesFit go → IsTyped q.defs.table signatures q.slots c → (b : Bound) → In b (left_bounds q a c go) → BoundFits b
@@ -73,9 +73,9 @@ module _ (facts : Facts) (q : Query) (signatures : Signatures) (typed : AreTyped
       ]
   bounds_fit (two o a c) t b h =
       let p = two_typed q.defs.table signatures q.slots t in
-      elim (In-append b (left_bounds q a c (sign_bounds o)) (left_bounds q c a (sign_bounds (turned o))) h) [
-        | inl x ↦ left_fits a c (sign_bounds o) (sign_fits o) p.1 b x
-        | inr y ↦ left_fits c a (sign_bounds (turned o)) (sign_fits (turned o)) p.0 b y
+      elim (In-append b (left_bounds q a c (operator_bounds o)) (left_bounds q c a (operator_bounds (turned o))) h) [
+        | inl x ↦ left_fits a c (operator_bounds o) (operator_fits o) p.1 b x
+        | inr y ↦ left_fits c a (operator_bounds (turned o)) (operator_fits (turned o)) p.0 b y
       ]
   bounds_fit (val v) t b h = absurd h
   bounds_fit (slot i) t b h = absurd h

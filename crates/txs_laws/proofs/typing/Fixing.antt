@@ -278,41 +278,41 @@ module _ (defs : Defs) (signatures : Signatures) (typed : AreTyped defs signatur
   -- ---- closing up
 
   module _ (others : List Ty) (ps : List ℕ) (size : ℕ) (points : Points slots ps others) (same : size ≡ length slots) where
-    closed_past : (behind : List Ty) (i : ℕ) (t : Ty) (locals : List Ty) → size ≤ i → slice_get (slots ++ behind) i ≡ Some t
-        → Of defs.table signatures (others ++ behind) locals (closed_up ps size i) t
-    closed_past behind i t locals h e = by (ltb i size) refl
+    closed_past : (later : List Ty) (i : ℕ) (t : Ty) (locals : List Ty) → size ≤ i → slice_get (slots ++ later) i ≡ Some t
+        → Of defs.table signatures (others ++ later) locals (closed_up ps size i) t
+    closed_past later i t locals h e = by (ltb i size) refl
       where
-        by : (b : Bool) → ltb i size ≡ b → Of defs.table signatures (others ++ behind) locals (cond b (slot (position ps i)) (slot ((i - size) + length ps))) t
+        by : (b : Bool) → ltb i size ≡ b → Of defs.table signatures (others ++ later) locals (cond b (slot (position ps i)) (slot ((i - size) + length ps))) t
         by true q = let l = ltb-true i size q in absurd (omega arith)
         by false q =
             let n = points-length slots ps others points in
-            slot_of (member_past others behind (i - size) ((i - size) + length ps) (omega arith) ∙ (sym (member_past slots behind (i - size) i (omega arith)) ∙ e))
+            slot_of (member_past others later (i - size) ((i - size) + length ps) (omega arith) ∙ (sym (member_past slots later (i - size) i (omega arith)) ∙ e))
 
-    closed_left : (behind : List Ty) (i : ℕ) (t : Ty) (locals : List Ty) → i < size → has ps i ≡ true → slice_get (slots ++ behind) i ≡ Some t
-        → Of defs.table signatures (others ++ behind) locals (closed_up ps size i) t
-    closed_left behind i t locals h k e = by (ltb i size) refl
+    closed_left : (later : List Ty) (i : ℕ) (t : Ty) (locals : List Ty) → i < size → has ps i ≡ true → slice_get (slots ++ later) i ≡ Some t
+        → Of defs.table signatures (others ++ later) locals (closed_up ps size i) t
+    closed_left later i t locals h k e = by (ltb i size) refl
       where
-        by : (b : Bool) → ltb i size ≡ b → Of defs.table signatures (others ++ behind) locals (cond b (slot (position ps i)) (slot ((i - size) + length ps))) t
+        by : (b : Bool) → ltb i size ≡ b → Of defs.table signatures (others ++ later) locals (cond b (slot (position ps i)) (slot ((i - size) + length ps))) t
         by true q =
-            slot_of (member_front others behind (position ps i) t (at_position slots ps others i t points k (member_before slots behind i t (omega arith) e)))
+            slot_of (member_front others later (position ps i) t (at_position slots ps others i t points k (member_before slots later i t (omega arith) e)))
         by false q = let l = ltb-false i size q in absurd (omega arith)
 
     -- fixing and closing up are one put
     pub closed_carries : (f : Puts) → Settles (loose_slots ps size) f → Carries defs.table signatures (then_put (closed_up ps size) f) slots others
     unfolding Settles
-    closed_carries f c behind i t locals e = by (has (loose_slots ps size) i) refl (c i)
+    closed_carries f c later i t locals e = by (has (loose_slots ps size) i) refl (c i)
       where
-        past : (b : Bool) → ltb i size ≡ b → has (loose_slots ps size) i ≡ false → Of defs.table signatures (others ++ behind) locals (closed_up ps size i) t
-        past true q k = let l = ltb-true i size q in closed_left behind i t locals l (left_slot ps size i l k) e
-        past false q k = let l = ltb-false i size q in closed_past behind i t locals (omega arith) e
+        past : (b : Bool) → ltb i size ≡ b → has (loose_slots ps size) i ≡ false → Of defs.table signatures (others ++ later) locals (closed_up ps size i) t
+        past true q k = let l = ltb-true i size q in closed_left later i t locals l (left_slot ps size i l k) e
+        past false q k = let l = ltb-false i size q in closed_past later i t locals (omega arith) e
 
-        by : (b : Bool) → has (loose_slots ps size) i ≡ b → PutsAt f i b → Of defs.table signatures (others ++ behind) locals (put (closed_up ps size) (f i)) t
+        by : (b : Bool) → has (loose_slots ps size) i ≡ b → PutsAt f i b → Of defs.table signatures (others ++ later) locals (put (closed_up ps size) (f i)) t
         by true q (v, g, m) =
             let l = kept_in (λ j. not (has ps j)) size 0 i q in
-            subst (λ x. Of defs.table signatures (others ++ behind) locals (put (closed_up ps size) x) t) (sym g)
-            (val_of (m t (member_before slots behind i t (omega arith) e)))
+            subst (λ x. Of defs.table signatures (others ++ later) locals (put (closed_up ps size) x) t) (sym g)
+            (val_of (m t (member_before slots later i t (omega arith) e)))
         by false q g =
-            subst (λ x. Of defs.table signatures (others ++ behind) locals (put (closed_up ps size) x) t) (sym g) (past (ltb i size) refl q)
+            subst (λ x. Of defs.table signatures (others ++ later) locals (put (closed_up ps size) x) t) (sym g) (past (ltb i size) refl q)
 
     -- the guards that keep a slot
     pub closed_guards : (f : Puts) → Suits defs.table signatures (then_put (closed_up ps size) f) slots others → (gs : List Expr)

@@ -111,11 +111,11 @@ mutual
 module _ (table : Table) (signatures : Signatures) where
   pub moved_carries : (ps : List ℕ) (size : ℕ) (slots others : List Ty) → Points others ps slots → size ≡ length others
       → Carries table signatures (moved ps size) slots others
-  moved_carries [] size [] others h e behind i t locals q = slot_of (member_past others behind i (i + size) (omega arith) ∙ q)
-  moved_carries [] size (s ∷ slots) others h e behind i t locals q = absurd h
-  moved_carries (p ∷ ps) size [] others h e behind i t locals q = absurd h
-  moved_carries (p ∷ ps) size (s ∷ slots) others h e behind zero t locals q = slot_of (member_front others behind p t (h.0 ∙ q))
-  moved_carries (p ∷ ps) size (s ∷ slots) others h e behind (suc i) t locals q = moved_carries ps size slots others h.1 e behind i t locals q
+  moved_carries [] size [] others h e later i t locals q = slot_of (member_past others later i (i + size) (omega arith) ∙ q)
+  moved_carries [] size (s ∷ slots) others h e later i t locals q = absurd h
+  moved_carries (p ∷ ps) size [] others h e later i t locals q = absurd h
+  moved_carries (p ∷ ps) size (s ∷ slots) others h e later zero t locals q = slot_of (member_front others later p t (h.0 ∙ q))
+  moved_carries (p ∷ ps) size (s ∷ slots) others h e later (suc i) t locals q = moved_carries ps size slots others h.1 e later i t locals q
 
   pub item_guards_joined : (slots : List Ty) (gs hs : List Expr) → AreItemGuards table signatures slots gs → AreItemGuards table signatures slots hs
       → AreItemGuards table signatures slots (gs ++ hs)

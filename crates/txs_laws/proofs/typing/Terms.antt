@@ -13,14 +13,14 @@ use Rattle.txs_terms.proofs.typing.Lists.{joined_again, joined_none}
 use Rattle.txs_terms.proofs.typing.Putting.{Suits, put_typed, filled_suits}
 
 module _ (table : Table) (signatures : Signatures) where
-  -- what is put for a slot has the slot's type, with any slots behind
+  -- what is put for a slot has the slot's type, with any slots after
   abbrev pub Carries : Puts → List Ty → List Ty → Type 0
-  Carries f slots others = (behind : List Ty) → Suits table signatures f (slots ++ behind) (others ++ behind)
+  Carries f slots others = (later : List Ty) → Suits table signatures f (slots ++ later) (others ++ later)
 
   pub carries_more : (f : Puts) (slots others ts : List Ty) → Carries f slots others → Carries f (slots ++ ts) (others ++ ts)
-  carries_more f slots others ts c behind =
-      subst (λ l. Suits table signatures f l ((others ++ ts) ++ behind)) (sym (joined_again slots ts behind))
-      (subst (λ l. Suits table signatures f (slots ++ (ts ++ behind)) l) (sym (joined_again others ts behind)) (c (ts ++ behind)))
+  carries_more f slots others ts c later =
+      subst (λ l. Suits table signatures f l ((others ++ ts) ++ later)) (sym (joined_again slots ts later))
+      (subst (λ l. Suits table signatures f (slots ++ (ts ++ later)) l) (sym (joined_again others ts later)) (c (ts ++ later)))
 
   pub carries_here : (f : Puts) (slots others : List Ty) → Carries f slots others → Suits table signatures f slots others
   carries_here f slots others c =
@@ -120,7 +120,7 @@ module _ (table : Table) (signatures : Signatures) where
   put_term_typed miss f scope slots others exit_types c h = tt
 
   pub filled_carries : (vs : List Value) (slots : List Ty) → HaveTypes table vs slots → Carries (filled vs) slots []
-  filled_carries vs slots h behind = filled_suits table signatures vs slots behind h
+  filled_carries vs slots h later = filled_suits table signatures vs slots later h
 
   pub fill_typed : (scope : Scope) (slots exit_types : List Ty) (vs : List Value) (t : Term)
       → HaveTypes table vs slots → OfTerm table signatures scope slots exit_types t → OfTerm table signatures scope [] exit_types (fill vs t)
@@ -128,18 +128,18 @@ module _ (table : Table) (signatures : Signatures) where
 
 -- ---- channels
 
--- the channels have the types of those that they stand for, with any channels behind
+-- the channels have the types of those that they stand for, with any channels after
 abbrev pub Leads : (ℕ → ℕ) → Scope → Scope → Type 0
-Leads g formals scope = (behind : Scope) (c : ℕ) → c < length (formals ++ behind)
-    → (g c < length (scope ++ behind)) × (types_on (scope ++ behind) (g c) ≡ types_on (formals ++ behind) c)
+Leads g formals scope = (later : Scope) (c : ℕ) → c < length (formals ++ later)
+    → (g c < length (scope ++ later)) × (types_on (scope ++ later) (g c) ≡ types_on (formals ++ later) c)
 
 abbrev LeadsHere : (ℕ → ℕ) → Scope → Scope → Type 0
 LeadsHere g formals scope = (c : ℕ) → c < length formals → (g c < length scope) × (types_on scope (g c) ≡ types_on formals c)
 
 leads_more : (g : ℕ → ℕ) (formals scope hs : Scope) → Leads g formals scope → Leads g (formals ++ hs) (scope ++ hs)
-leads_more g formals scope hs l behind =
-    subst (λ x. LeadsHere g x ((scope ++ hs) ++ behind)) (sym (joined_again formals hs behind))
-    (subst (λ x. LeadsHere g (formals ++ (hs ++ behind)) x) (sym (joined_again scope hs behind)) (l (hs ++ behind)))
+leads_more g formals scope hs l later =
+    subst (λ x. LeadsHere g x ((scope ++ hs) ++ later)) (sym (joined_again formals hs later))
+    (subst (λ x. LeadsHere g (formals ++ (hs ++ later)) x) (sym (joined_again scope hs later)) (l (hs ++ later)))
 
 leads_here : (g : ℕ → ℕ) (formals scope : Scope) → Leads g formals scope → LeadsHere g formals scope
 leads_here g formals scope l =
@@ -221,23 +221,23 @@ length_joined : {A : Type 0} (xs ys : List A) → length (xs ++ ys) ≡ length x
 length_joined [] ys = omega arith
 length_joined (x ∷ xs) ys = let q = length_joined xs ys in omega arith
 
-pub types_front : (scope behind : Scope) (c : ℕ) → c < length scope → types_on (scope ++ behind) c ≡ types_on scope c
-types_front [] behind c h = absurd (omega arith)
-types_front (ts ∷ scope) behind zero h = refl
-types_front (ts ∷ scope) behind (suc c) h = types_front scope behind c (omega arith)
+pub types_front : (scope later : Scope) (c : ℕ) → c < length scope → types_on (scope ++ later) c ≡ types_on scope c
+types_front [] later c h = absurd (omega arith)
+types_front (ts ∷ scope) later zero h = refl
+types_front (ts ∷ scope) later (suc c) h = types_front scope later c (omega arith)
 
-types_past : (scope behind : Scope) (c m : ℕ) → m ≡ c + length scope → types_on (scope ++ behind) m ≡ types_on behind c
-types_past [] behind c m e = ap (types_on behind) (let q : m ≡ c = omega arith in q)
-types_past (ts ∷ scope) behind c zero e = absurd (omega arith)
-types_past (ts ∷ scope) behind c (suc m) e = types_past scope behind c m (omega arith)
+types_past : (scope later : Scope) (c m : ℕ) → m ≡ c + length scope → types_on (scope ++ later) m ≡ types_on later c
+types_past [] later c m e = ap (types_on later) (let q : m ≡ c = omega arith in q)
+types_past (ts ∷ scope) later c zero e = absurd (omega arith)
+types_past (ts ∷ scope) later c (suc m) e = types_past scope later c m (omega arith)
 
 instance_leads : (scope : Scope) (cs : Channels) (formals : Scope) → FitChannels scope cs formals → Leads (channel_at cs (length scope)) formals scope
-instance_leads scope [] [] h behind c k = ((let q = length_joined scope behind in omega arith), types_past scope behind c (c + length scope) refl)
-instance_leads scope [] (ts ∷ formals) h behind c k = absurd h
-instance_leads scope (x ∷ cs) [] h behind c k = absurd h
-instance_leads scope (x ∷ cs) (ts ∷ formals) h behind zero k =
-    ((let p = h.0 in let q = length_joined scope behind in omega arith), types_front scope behind x h.0 ∙ h.1)
-instance_leads scope (x ∷ cs) (ts ∷ formals) h behind (suc c) k = instance_leads scope cs formals h.2 behind c (omega arith)
+instance_leads scope [] [] h later c k = ((let q = length_joined scope later in omega arith), types_past scope later c (c + length scope) refl)
+instance_leads scope [] (ts ∷ formals) h later c k = absurd h
+instance_leads scope (x ∷ cs) [] h later c k = absurd h
+instance_leads scope (x ∷ cs) (ts ∷ formals) h later zero k =
+    ((let p = h.0 in let q = length_joined scope later in omega arith), types_front scope later x h.0 ∙ h.1)
+instance_leads scope (x ∷ cs) (ts ∷ formals) h later (suc c) k = instance_leads scope cs formals h.2 later c (omega arith)
 
 pub instance_typed : (table : Table) (signatures : Signatures) (formals scope : Scope) (slots exit_types : List Ty) (cs : Channels) (vs : List Value) (body : Term)
     → FitChannels scope cs formals → HaveTypes table vs slots → OfTerm table signatures formals slots exit_types body

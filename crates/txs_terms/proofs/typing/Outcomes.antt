@@ -5,7 +5,7 @@ use Rattle.std.proofs.lemmas.Bool.{and_parts, and_from, eqb-true}
 use Rattle.txs_values.specs.Value.{Ty, integer, truth, string, named, Value, num, bool, text, cons, Values, no_value, and_value, listed, packed, size, height, Table, Constructor, place_of, field_types, fields_in, has_type, has_fields, HasType, HaveTypes, fits, value_size_limit, value_height_limit}
 use Rattle.txs_values.specs.Spelling.{read_text}
 use Rattle.txs_terms.specs.Expr.{Unary, Binary, divide, remainder, concat, differ, char_at}
-use Rattle.txs_terms.specs.Eval.{Fault, division, range, selector, form, high, long, big, wrong, Outcome, fine, broken, in_range, sized, selected, spelled, text_to, unary, binary, whole_binary, divided, char_of, char_from}
+use Rattle.txs_terms.specs.Eval.{Fault, division, range, selector, form, high, long, big, wrong, Outcome, fine, broken, in_range, sized, selected, spelled, text_to, unary, binary, integer_binary, divided, char_of, char_from}
 use Rattle.txs_terms.specs.Typed.{UnaryOf, negate_of, negation_of, to_text_of, from_text_of, len_of, made_by_of, select_of, BinaryOf, plus_of, minus_of, times_of, divide_of, remainder_of, concat_of, differ_of, less_of, at_most_of, more_of, at_least_of, char_of as char_at_of}
 use Rattle.txs_terms.proofs.typing.Numbers.{place_at, fields_same}
 use Rattle.txs_terms.proofs.typing.Reading.{IfTyped, read_typed}
@@ -155,19 +155,19 @@ module _ (table : Table) where
   remainder_fine x (ℤ.pos (suc n)) = in_range_fine _
   remainder_fine x (ℤ.negsuc n) = in_range_fine _
 
-  whole_fine : {o : Binary} {r s t : Ty} → BinaryOf o r s t → r ≡ integer → s ≡ integer → (x y : ℤ) → IsFine t (whole_binary o x y)
-  whole_fine plus_of a b x y = in_range_fine _
-  whole_fine minus_of a b x y = in_range_fine _
-  whole_fine times_of a b x y = in_range_fine _
-  whole_fine divide_of a b x y = divide_fine x y
-  whole_fine remainder_of a b x y = remainder_fine x y
-  whole_fine concat_of a b x y = cc
-  whole_fine (differ_of t) a b x y = refl
-  whole_fine less_of a b x y = refl
-  whole_fine at_most_of a b x y = refl
-  whole_fine more_of a b x y = refl
-  whole_fine at_least_of a b x y = refl
-  whole_fine char_at_of a b x y = cc
+  integer_fine : {o : Binary} {r s t : Ty} → BinaryOf o r s t → r ≡ integer → s ≡ integer → (x y : ℤ) → IsFine t (integer_binary o x y)
+  integer_fine plus_of a b x y = in_range_fine _
+  integer_fine minus_of a b x y = in_range_fine _
+  integer_fine times_of a b x y = in_range_fine _
+  integer_fine divide_of a b x y = divide_fine x y
+  integer_fine remainder_of a b x y = remainder_fine x y
+  integer_fine concat_of a b x y = cc
+  integer_fine (differ_of t) a b x y = refl
+  integer_fine less_of a b x y = refl
+  integer_fine at_most_of a b x y = refl
+  integer_fine more_of a b x y = refl
+  integer_fine at_least_of a b x y = refl
+  integer_fine char_at_of a b x y = cc
 
   -- a value of type Int is a number, and so on
   num_of : (x : Value) → HasType table x integer → (n : ℤ) × (x ≡ num n)
@@ -182,10 +182,10 @@ module _ (table : Table) where
   text_of_type (text b) h = (b, refl)
   text_of_type (cons c vs) h = cc
 
-  by_whole : {o : Binary} {t : Ty} → BinaryOf o integer integer t → (x y : Value) → HasType table x integer → HasType table y integer → IsFine t (binary o x y)
-  by_whole {o = o} {t = t} b x y h k =
+  by_integers : {o : Binary} {t : Ty} → BinaryOf o integer integer t → (x y : Value) → HasType table x integer → HasType table y integer → IsFine t (binary o x y)
+  by_integers {o = o} {t = t} b x y h k =
       let p = num_of x h in let q = num_of y k in
-      subst (λ z. IsFine t (binary o z y)) (sym p.1) (subst (λ z. IsFine t (binary o (num p.0) z)) (sym q.1) (whole_fine b refl refl p.0 q.0))
+      subst (λ z. IsFine t (binary o z y)) (sym p.1) (subst (λ z. IsFine t (binary o (num p.0) z)) (sym q.1) (integer_fine b refl refl p.0 q.0))
 
   concat_fine : (x y : Value) → HasType table x string → HasType table y string → IsFine string (binary concat x y)
   concat_fine x y h k =
@@ -224,15 +224,15 @@ module _ (table : Table) where
   differ_fine (cons c vs) (cons d ws) = refl
 
   pub binary_fine : {o : Binary} {r s t : Ty} → BinaryOf o r s t → (x y : Value) → HasType table x r → HasType table y s → IsFine t (binary o x y)
-  binary_fine plus_of x y h k = by_whole plus_of x y h k
-  binary_fine minus_of x y h k = by_whole minus_of x y h k
-  binary_fine times_of x y h k = by_whole times_of x y h k
-  binary_fine divide_of x y h k = by_whole divide_of x y h k
-  binary_fine remainder_of x y h k = by_whole remainder_of x y h k
+  binary_fine plus_of x y h k = by_integers plus_of x y h k
+  binary_fine minus_of x y h k = by_integers minus_of x y h k
+  binary_fine times_of x y h k = by_integers times_of x y h k
+  binary_fine divide_of x y h k = by_integers divide_of x y h k
+  binary_fine remainder_of x y h k = by_integers remainder_of x y h k
   binary_fine concat_of x y h k = concat_fine x y h k
   binary_fine (differ_of t) x y h k = differ_fine x y
-  binary_fine less_of x y h k = by_whole less_of x y h k
-  binary_fine at_most_of x y h k = by_whole at_most_of x y h k
-  binary_fine more_of x y h k = by_whole more_of x y h k
-  binary_fine at_least_of x y h k = by_whole at_least_of x y h k
+  binary_fine less_of x y h k = by_integers less_of x y h k
+  binary_fine at_most_of x y h k = by_integers at_most_of x y h k
+  binary_fine more_of x y h k = by_integers more_of x y h k
+  binary_fine at_least_of x y h k = by_integers at_least_of x y h k
   binary_fine char_at_of x y h k = char_fine x y h k

@@ -81,7 +81,7 @@ module _ (table : Table) where
   arguments_fit below h (f ∷ g ∷ fs) bs =
       then_fits (IsOf f.ty) (AreOf (f ∷ g ∷ fs)) (below f.ty bs) _ (h f.ty bs)
       (λ v rest q. then_fits (λ _. Unit {0}) (AreOf (f ∷ g ∷ fs)) (symbol_front 44 (past_blanks rest)) _ (any_fits _)
-      (λ _ behind _. then_fits (AreOf (g ∷ fs)) (AreOf (f ∷ g ∷ fs)) (arguments_front below (g ∷ fs) behind) _ (arguments_fit below h (g ∷ fs) behind)
+      (λ _ later _. then_fits (AreOf (g ∷ fs)) (AreOf (f ∷ g ∷ fs)) (arguments_front below (g ∷ fs) later) _ (arguments_fit below h (g ∷ fs) later)
       (λ vs more r. and_from (has_type table v f.ty) (has_fields table vs (Some (field_types (g ∷ fs)))) q r)))
 
   fields_fit : (below : Reader) → ReadsWell below → (c k : ℕ) (fs : List Field) (bs : List ℕ) → fields_in (place_of table c) k ≡ Some (field_types fs)
@@ -101,15 +101,15 @@ module _ (table : Table) where
   truth_fits None rest = tt
   truth_fits (Some b) rest = refl
 
-  whole_fits : (bs : List ℕ) → Fits (IsOf integer) (whole_front bs)
-  whole_fits bs = then_fits (λ _. Unit {0}) (IsOf integer) (number_front bs) _ (any_fits _) (λ z rest _. by z rest (fits z) refl)
+  integer_fits : (bs : List ℕ) → Fits (IsOf integer) (whole_front bs)
+  integer_fits bs = then_fits (λ _. Unit {0}) (IsOf integer) (number_front bs) _ (any_fits _) (λ z rest _. by z rest (fits z) refl)
     where
       by : (z : ℤ) (rest : List ℕ) (b : Bool) → fits z ≡ b → Fits (IsOf integer) (cond b (Some (record { value = num z; rest = rest })) None)
       by z rest true e = e
       by z rest false e = tt
 
   level_fits : (below : Reader) → ReadsWell below → ReadsWell (level_front table below)
-  level_fits below h integer bs = whole_fits bs
+  level_fits below h integer bs = integer_fits bs
   level_fits below h truth bs = then_fits (λ _. Unit {0}) (IsOf truth) (name_front bs) _ (any_fits _) (λ name rest _. truth_fits (truth_named name) rest)
   level_fits below h string bs = then_fits (λ _. Unit {0}) (IsOf string) (text_front bs) _ (any_fits _) (λ t rest _. refl)
   level_fits below h (named k) bs =

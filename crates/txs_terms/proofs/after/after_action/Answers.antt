@@ -1,5 +1,5 @@
 use Rattle.std.proofs.Common.{ℕ, ◌<◌, ◌↔◌, subst}
-use Rattle.txs_terms.specs.Sets.{CanDo}
+use Rattle.txs_terms.specs.After.{CanDo}
 use Rattle.txs_terms.specs.View.{action_of, terms_of}
 use Rattle.txs_terms.proofs.PlainLaws.{all_moves_plain}
 use Rattle.txs_terms.proofs.SetLaws.{set_acts, set_can_do, same_length}

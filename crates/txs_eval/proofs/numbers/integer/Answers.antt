@@ -6,7 +6,7 @@ use Rattle.txs_values.specs.Value.{num}
 use Rattle.txs_terms.specs.Eval.{fine}
 use Rattle.txs_eval.proofs.Ranges.{within, past}
 use Rattle.txs_eval.proofs.Views.{at_int}
-use Rattle.txs_eval.proofs.numbers.whole.Goals as goal
+use Rattle.txs_eval.proofs.numbers.integer.Goals as goal
 
 pub returns-in-Some-clause-value : goal.returns-in-Some-clause-value
 returns-in-Some-clause-value c = λ x h.
