@@ -1,18 +1,9 @@
 -- A number that was worked out is one of Int, or past its range.
-use Rattle.std.proofs.Common.{◌≡◌, ◌^◌, ℤ, Bool, true, false, cond, refl, ap, FitsSigned}
-use Rattle.std.proofs.lemmas.Bool.Decides.{Decides-ltb}
+use Rattle.std.proofs.Common.{◌≡◌, ℤ, Bool, true, false, cond, refl, ap, FitsSigned}
 use Rattle.std.specs.Int.{w128}
-use Rattle.std.specs.Int.Signed.{mag}
 use Rattle.txs_values.specs.Value.{fits, num}
+use Rattle.txs_values.proofs.Ranges.{fits_true, true_fits}
 use Rattle.txs_terms.specs.Eval.{in_range, fine, broken, range}
-
-pub fits_true : (z : ℤ) → FitsSigned w128 z → fits z ≡ true
-unfolding fits
-fits_true z h = (Decides-ltb (mag z) (2 ^ 127)).1 h.sfits
-
-true_fits : (z : ℤ) → fits z ≡ true → FitsSigned w128 z
-unfolding fits
-true_fits z h = record { sfits = (Decides-ltb (mag z) (2 ^ 127)).0 h }
 
 pub within : (z : ℤ) → FitsSigned w128 z → in_range z ≡ fine (num z)
 within z h = ap (λ (t : Bool). cond t (fine (num z)) (broken range)) (fits_true z h)

@@ -3,15 +3,8 @@ use Rattle.std.proofs.Common.{◌≡◌, ◌<◌, ◌≤◌, true, false, ltb, m
 use Rattle.std.proofs.lemmas.Bool.{lt-ltb, le-ltb}
 use Rattle.txs_values.specs.Measure.{u64_max}
 use Rattle.txs_values.specs.Value.{Value, size, height, value_size_limit, value_height_limit}
+use Rattle.txs_values.proofs.Limits.{size_limit_is, height_limit_is}
 use Rattle.txs_terms.specs.Eval.{sized, fine, broken, big}
-
-size_limit_is : value_size_limit ≡ 16384
-unfolding value_size_limit
-size_limit_is = refl
-
-height_limit_is : value_height_limit ≡ 1000
-unfolding value_height_limit
-height_limit_is = refl
 
 pub too_large : (v : Value) → 16384 < min (size v) u64_max → sized v ≡ broken big
 too_large v h = let q : ltb value_size_limit (size v) ≡ true = rw size_limit_is (lt-ltb 16384 (size v) (omega arith)) in rw q refl

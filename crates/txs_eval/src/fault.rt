@@ -29,7 +29,7 @@ pub enum EvalFault {
 }
 
 /// Why an evaluation stops. `Wrong`, a value of a wrong type, is met by no well typed expression.
-#[derive(Clone, Copy, Debug, Drop)]
+#[derive(Clone, Copy, Drop)]
 pub enum Stop {
     Division,
     Range,

@@ -1,15 +1,8 @@
 -- An action of one Int on one channel is an action where the channel is of Ints.
-use Rattle.std.proofs.Common.{◌≡◌, ℕ, ℤ, ◌^◌, List, [], ◌∷◌, true, refl, sym, subst, FitsSigned}
-use Rattle.std.specs.Int.{w128}
-use Rattle.std.specs.Int.Signed.{mag}
-use Rattle.std.proofs.lemmas.Bool.Decides.{Decides-ltb}
+use Rattle.std.proofs.Common.{◌≡◌, ℕ, ℤ, List, [], ◌∷◌, true, refl, sym, subst}
 use Rattle.txs_values.specs.Value.{Ty, integer, Table, num, fits, HaveTypes}
 use Rattle.txs_terms.specs.Action.{Scope, IsAction, types_on}
 use Rattle.txs_terms.specs.Sets.{IsInt}
-
-pub in_range_fits : (v : ℤ) → FitsSigned w128 v → fits v ≡ true
-unfolding fits
-in_range_fits v h = (Decides-ltb (mag v) (2 ^ 127)).1 h.sfits
 
 int_types : (table : Table) (ts : List Ty) (v : ℤ) → ts ≡ integer ∷ [] → fits v ≡ true → HaveTypes table (num v ∷ []) ts
 int_types table ts v e h = subst (λ us. HaveTypes table (num v ∷ []) us) (sym e) (h, tt)

@@ -12,7 +12,7 @@ use Rattle.txs_terms.specs.Moves.{is_number, met_by, offers_met, moves_of}
 use Rattle.txs_terms.proofs.Members.{in_front, in_back, in_either}
 use Rattle.txs_terms.proofs.Prefixes.{value_gives, given_value, number_is, same_number, prefix_does, stop_does, choice_does}
 
-same_head : {x y : ℕ} {xs ys : List ℕ} → x ∷ xs ≡ y ∷ ys → x ≡ y
+pub same_head : {x y : ℕ} {xs ys : List ℕ} → x ∷ xs ≡ y ∷ ys → x ≡ y
 same_head e = cc
 
 pub values_at : (p : Part) (c : ℕ) → p.channel ≡ c → values_on (p ∷ []) c ≡ p.values

@@ -10,10 +10,7 @@ use Rattle.txs_terms.specs.Sets.{IsInt, IsPlainPosition, ArePlainOffers, IsPlain
 use Rattle.txs_terms.specs.Moves.{is_number, admits, offers_met, speaks}
 use Rattle.txs_terms.proofs.Actions.{int_action}
 use Rattle.txs_terms.proofs.Prefixes.{same_number, prefix_does, stop_does, choice_does, plain_still}
-use Rattle.txs_terms.proofs.MoveLaws.{plain_number, offer_on, offer_is}
-
-same_channel : {x y : ℕ} {xs ys : List ℕ} → x ∷ xs ≡ y ∷ ys → x ≡ y
-same_channel e = cc
+use Rattle.txs_terms.proofs.MoveLaws.{same_head, plain_number, offer_on, offer_is}
 
 only_one : (cs ds : Channels) (sets : List Channels) → sets ≡ ds ∷ [] → In cs sets → cs ≡ ds
 only_one cs ds [] e h = absurd h
@@ -33,7 +30,7 @@ silent model scope out stop a t' p h e x = stop_does model scope (act a) t' x
 silent model scope out (prefix (o ∷ []) [] t) a t' p h e x =
     let d = prefix_does model scope (o ∷ []) [] t (act a) t' x in
     let k : o.channel ∷ [] ≡ out ∷ [] = sym d.0 ∙ e in
-    silent_by o.channel o.channel out h refl (same_channel k)
+    silent_by o.channel o.channel out h refl (same_head k)
 silent model scope out (prefix [] [] t) a t' p h e x = absurd p.0
 silent model scope out (prefix (o ∷ o2 ∷ os) [] t) a t' p h e x = absurd p.0
 silent model scope out (choice l r) a t' p h e x =

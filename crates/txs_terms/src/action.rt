@@ -12,14 +12,14 @@ use txs_values::{NoMemory, Value, Values, copy_value};
 pub type Channels = Items<u32>;
 
 /// A channel with its values.
-#[derive(Debug, Drop)]
+#[derive(Drop)]
 pub struct Part {
     pub channel: u32,
     pub values: Values,
 }
 
 /// Ascending channels, each with its values.
-#[derive(Debug, Drop)]
+#[derive(Drop)]
 pub struct Action {
     parts: Items<Part>,
 }

@@ -9,7 +9,7 @@ use std::sync::Arc;
 use txs_values::{Text, Ty, TypeTable, Types};
 
 /// A function: the types of its parameters and of its result, and its body, in which slot k is the parameter k.
-#[derive(Debug, Drop)]
+#[derive(Drop)]
 pub struct FunctionDef {
     pub name: Text,
     pub takes: Types,
@@ -17,7 +17,7 @@ pub struct FunctionDef {
     pub body: Expr,
 }
 
-#[derive(Debug, Drop)]
+#[derive(Drop)]
 pub struct ConstantDef {
     pub name: Text,
     pub ty: Ty,
@@ -26,7 +26,7 @@ pub struct ConstantDef {
 
 /// The types, functions and constants of a file. Headers name types of the table, each body is of its type, each type has a default, and
 /// constructors are called by names, no two by one.
-#[derive(Debug, Drop)]
+#[derive(Drop)]
 pub struct Defs {
     table: TypeTable,
     functions: Items<FunctionDef>,

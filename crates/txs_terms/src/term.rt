@@ -17,7 +17,7 @@ pub type Names = Items<Text>;
 pub type ChanTypes = Items<Types>;
 
 /// A process with its actual channels and arguments.
-#[derive(Debug, Drop)]
+#[derive(Drop)]
 pub struct Call {
     pub process: u32,
     pub channels: Channels,
@@ -31,7 +31,7 @@ pub struct Term {
 }
 
 /// The outermost form of a term. A prefix without offers is an internal step.
-#[derive(Debug, Drop)]
+#[derive(Drop)]
 pub enum Top {
     Stop,
     Exit(Exprs),

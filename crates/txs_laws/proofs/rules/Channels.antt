@@ -41,13 +41,13 @@ pub within_left : (xs ys : Channels) → Within xs (union xs ys)
 within_left [] ys = tt
 within_left (x ∷ xs) ys = (has_new x (union xs ys), Within_more x xs (union xs ys) (within_left xs ys))
 
-Within_cons : (x : ℕ) (xs all : Channels) → Within xs all → Within xs (x ∷ all)
-Within_cons x [] all h = tt
-Within_cons x (c ∷ cs) all h = (or_right (eqb x c) (has all c) h.0, Within_cons x cs all h.1)
+pub within_cons : (x : ℕ) (xs all : Channels) → Within xs all → Within xs (x ∷ all)
+within_cons x [] all h = tt
+within_cons x (c ∷ cs) all h = (or_right (eqb x c) (has all c) h.0, within_cons x cs all h.1)
 
 pub within_self : (xs : Channels) → Within xs xs
 within_self [] = tt
-within_self (x ∷ xs) = (has_self x xs, Within_cons x xs xs (within_self xs))
+within_self (x ∷ xs) = (has_self x xs, within_cons x xs xs (within_self xs))
 
 right_each : (zs xs ys : Channels) → Within zs ys → Within zs (union xs ys)
 right_each [] xs ys h = tt
@@ -55,10 +55,6 @@ right_each (z ∷ zs) xs ys h = (has_right xs ys z h.0, right_each zs xs ys h.1)
 
 pub within_right : (xs ys : Channels) → Within ys (union xs ys)
 within_right xs ys = right_each ys xs ys (within_self ys)
-
-pub within_cons : (x : ℕ) (xs all : Channels) → Within xs all → Within xs (x ∷ all)
-within_cons x [] all h = tt
-within_cons x (c ∷ cs) all h = (or_right (eqb x c) (has all c) h.0, within_cons x cs all h.1)
 
 pub within_order : (cs : Channels) → Within cs (in_order cs)
 within_order cs = within_left cs []

@@ -13,7 +13,7 @@ use Rattle.txs_laws.proofs.rules.Put.{Picked}
 use Rattle.txs_laws.proofs.rules.Tests.{judge_holds, holds_judge, from_parts, closed_part, open_part}
 use Rattle.txs_laws.proofs.rules.Places.{Within, width-values, over_channels, typed_on, typed_part, channels_part, values_part}
 use Rattle.txs_laws.proofs.rules.Lists.{In_front, In_back, In-append, walked_items}
-use Rattle.txs_laws.proofs.rules.Channels.{ascending_kept, within_cons}
+use Rattle.txs_laws.proofs.rules.Channels.{ascending_kept, within_cons, within_self}
 use Rattle.txs_laws.proofs.rules.Sequential.{Means, InOrder}
 use Rattle.txs_laws.proofs.rules.Fix.{fix_all_from, keeps, extends}
 use Rattle.txs_values.specs.Default.{default_of}
@@ -23,13 +23,9 @@ use Rattle.txs_laws.proofs.typing.Facts.{Facts}
 use Rattle.txs_laws.proofs.rules.Slots.{item_guards}
 use Rattle.txs_laws.proofs.rules.Left.{shown_fast, fixed_reads, left_guards, left_rest}
 use Rattle.txs_laws.proofs.rules.Rows.{part_whole, typed_row, from_row, Picked_along, same_picked, same_parts}
+use Rattle.txs_laws.proofs.typing.Terms.{types_front}
 
 -- ---- the channels of a scope within another
-
-types_front : (scope hs : Scope) (c : ℕ) → c < length scope → types_on (scope ++ hs) c ≡ types_on scope c
-types_front [] hs c h = absurd (omega arith)
-types_front (ts ∷ scope) hs zero h = refl
-types_front (ts ∷ scope) hs (suc c) h = types_front scope hs c (let k : c < length scope = omega arith in k)
 
 -- all of these channels are below
 abbrev AreVisible : ℕ → Channels → Type 0
@@ -355,7 +351,7 @@ module _ (facts : Facts) (model : Model) (signatures : Signatures) (ok : AreType
       let fx = fix_all_from facts model.defs signatures ok (types_over big cs) _ loose i i' gs p.1 in
       let x0 = begun facts model scope hs ok.table types_known y cs in
       let c0 : channels x0 ≡ cs = channels_begun facts model scope hs ok.table types_known y cs in
-      let wy : Within vis (channels y) = subst (Within vis) (sym cy) (within_self' vis) in
+      let wy : Within vis (channels y) = subst (Within vis) (sym cy) (within_self vis) in
       let t0 : IsTyped model.defs.table big x0 = begun_typed facts model scope hs ok.table types_known y cs ty wy in
       let row0 : HaveTypes model.defs.table (values x0) (types_over big cs) = subst (λ k. HaveTypes model.defs.table (values x0) (types_over big k)) c0 (typed_row model.defs.table big x0 t0) in
       let ext = extends fx (values x0) row0 in
@@ -401,10 +397,6 @@ module _ (facts : Facts) (model : Model) (signatures : Signatures) (ok : AreType
         becomes = subst (λ k. fill (values y) k.rest ≡ hide hs (fill (values x) i.rest)) (sym q.1)
             (ap (hide hs) (lr ∙ (ext.rest ∙ ap (λ vs. fill vs i.rest) (sym ax.2))));
       }
-    where
-      within_self' : (xs : Channels) → Within xs xs
-      within_self' [] = tt
-      within_self' (a ∷ xs) = (or_left (eqb a a) (has xs a) (eq-eqb a a refl), within_cons a xs xs (within_self' xs))
 
   not_empty : (cs : Channels) (ys : Channels) → on ys ≡ shown_kind cs → (is_empty cs ≡ false) × (ys ≡ cs)
   not_empty [] ys e = cc

@@ -55,8 +55,8 @@ not_from false e = cc
 pub shown_fast : (ps : List ℕ) (size j : ℕ) → has ps j ≡ true → has (loose_slots ps size) j ≡ false
 shown_fast ps size j h = kept_only (λ i. not (has ps i)) j (from 0 size) (not_from (has ps j) h)
 
-fast_shown : (ps : List ℕ) (size j : ℕ) → j < size → has (loose_slots ps size) j ≡ false → has ps j ≡ true
-fast_shown ps size j l h =
+pub left_slot : (ps : List ℕ) (size j : ℕ) → j < size → has (loose_slots ps size) j ≡ false → has ps j ≡ true
+left_slot ps size j l h =
     not-false (has ps j) (not_kept (λ i. not (has ps i)) j (from 0 size) (has_from 0 size j (omega arith) (omega arith)) h)
 
 -- ---- numbering anew
@@ -80,7 +80,7 @@ at_position vs (p ∷ ps) (w ∷ ws) k j h = position_first vs p j ps w ws (eqb 
 
 closed_first : (vs : List Value) (ps : List ℕ) (ws : List Value) (size j : ℕ) (b : Bool) → ltb j size ≡ b → size ≡ length vs → Picked vs ps ws
     → has (loose_slots ps size) j ≡ false → put (filled ws) (cond b (slot (position ps j)) (slot ((j - size) + length ps))) ≡ filled vs j
-closed_first vs ps ws size j true e n k h = at_position vs ps ws k j (fast_shown ps size j (ltb-true j size e) h)
+closed_first vs ps ws size j true e n k h = at_position vs ps ws k j (left_slot ps size j (ltb-true j size e) h)
 closed_first vs ps ws size j false e n k h =
     let l = ltb-false j size e in
     let m = Picked-length vs ps ws k in

@@ -8,6 +8,7 @@ use Rattle.txs_terms.specs.Rules.{In}
 use Rattle.txs_terms.specs.Typed.{Signatures, Of, val_of, slot_of, local_of, constant_of, one_of, two_of, equal_of, both_of, either_of, choose_of, apply_of, build_of, let_of, Ofs, none_of, more_of', AreGuards}
 use Rattle.txs_terms.specs.Menu.{only}
 use Rattle.txs_laws.specs.Items.{AreItemGuards}
+use Rattle.txs_terms.proofs.typing.Lists.{same_some}
 
 mutual
   pub closed_of : {table : Table} {signatures : Signatures} {slots locals : List Ty} {e : Expr} {t : Ty}
@@ -44,15 +45,12 @@ mutual
 abbrev pub HasAt : Table → List Ty → ℕ → Value → Type 0
 HasAt table slots s v = (t : Ty) × (slice_get slots s ≡ Some t) × HasType table v t
 
-some_same : {x y : Ty} → Some x ≡ Some y → x ≡ y
-some_same e = cc
-
 module _ (table : Table) (signatures : Signatures) (slots : List Ty) (s : ℕ) (v : Value) (h : HasAt table slots s v) where
   only_of : (locals : List Ty) (i : ℕ) (t : Ty) (b : Bool) → eqb s i ≡ b → slice_get slots i ≡ Some t
       → Of table signatures slots locals (cond b (val v) (slot i)) t
   only_of locals i t true e g =
       let q = ap (slice_get slots) (eqb-true s i e) in
-      val_of (subst (HasType table v) (some_same (sym h.1 ∙ (q ∙ g))) h.2)
+      val_of (subst (HasType table v) (same_some (sym h.1 ∙ (q ∙ g))) h.2)
   only_of locals i t false e g = slot_of g
 
   mutual

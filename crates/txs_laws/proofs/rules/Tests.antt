@@ -3,7 +3,7 @@ use Rattle.std.specs.Prelude.{Option, Some, None}
 use Rattle.std.proofs.Common.{subst}
 use Rattle.std.proofs.Common.{◌≡◌, ℕ, zero, suc, ◌<◌, Bool, true, false, cond, eqb, ltb, ◌||◌, List, [], ◌∷◌, ◌++◌, refl, sym, ap, ◌∙◌, arith, lit<}
 use mathlib.Core.Bool.{beq}
-use Rattle.std.proofs.lemmas.Bool.{or_parts, and_parts, and_from, eqb-true, eq-eqb, lt-ltb}
+use Rattle.std.proofs.lemmas.Bool.{or_parts, and_parts, both_ways, and_from, eqb-true, eq-eqb, lt-ltb}
 use Rattle.std.proofs.lemmas.Bool.Decides.{Decides-int_eq}
 use Rattle.std.specs.Cmp.Lexicographic.{bytes_decides}
 use Rattle.txs_values.specs.Value.{Value, num, bool, text, cons, Values, no_value, and_value, same_value, same_each}
@@ -76,6 +76,15 @@ mutual
   same_each_refl no_value = refl
   same_each_refl (and_value v vs) = and_from (same_value v v) (same_each vs vs) (same_value_refl v) (same_each_refl vs)
 
+pub sym_same : (x y : Value) → same_value x y ≡ same_value y x
+sym_same x y = go (same_value x y) (same_value y x) refl refl
+  where
+    go : (a b : Bool) → same_value x y ≡ a → same_value y x ≡ b → a ≡ b
+    go true true e h = refl
+    go false false e h = refl
+    go true false e h = let q = same_value-true x y e in absurd (both_ways _ h (ap (λ (z : Value). same_value y z) q ∙ same_value_refl y))
+    go false true e h = let q = same_value-true y x h in absurd (both_ways _ e (ap (λ (z : Value). same_value x z) q ∙ same_value_refl x))
+
 pub same_bound : (defs : Defs) (before : List Value) (es : List Expr) (vs ws : List Value) → AllBind defs before es vs → AllBind defs before es ws → vs ≡ ws
 same_bound defs before [] [] [] p q = refl
 same_bound defs before [] [] (w ∷ ws) p q = absurd q
@@ -88,15 +97,15 @@ same_bound defs before (e ∷ es) (v ∷ vs) (w ∷ ws) p q =
     let b = same_bound defs (before ++ v ∷ []) es vs ws p.1 q' in cc
 
 -- an evaluation that gives a value was below the limits
-cond_got : (b : Bool) (r : Run) (v : Value) (n : ℕ) → cond b r (bad long) ≡ got v n → r ≡ got v n
+pub cond_got : (b : Bool) (r : Run) (v : Value) (n : ℕ) → cond b r (bad long) ≡ got v n → r ≡ got v n
 cond_got true r v n e = e
 cond_got false r v n e = cc
 
-val_run : (defs : Defs) (h : ℕ) (v w : Value) (m n : ℕ) → run defs h (val v) m ≡ got w n → v ≡ w
+pub val_run : (defs : Defs) (h : ℕ) (v w : Value) (m n : ℕ) → run defs h (val v) m ≡ got w n → v ≡ w
 val_run defs zero v w m n e = cc
 val_run defs (suc h) v w m n e = let k = cond_got (ltb m node_limit) (got v (suc m)) w n e in cc
 
-then_run_from : (r : Run) (go : Value → ℕ → Run) (v : Value) (n : ℕ) → then_run r go ≡ got v n
+pub then_run_from : (r : Run) (go : Value → ℕ → Run) (v : Value) (n : ℕ) → then_run r go ≡ got v n
     → (w : Value) × (m : ℕ) × (r ≡ got w m) × (go w m ≡ got v n)
 then_run_from (got w m) go v n e = (w, m, refl, e)
 then_run_from (bad f) go v n e = cc

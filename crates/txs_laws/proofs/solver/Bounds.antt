@@ -14,20 +14,17 @@ use Rattle.txs_guard.specs.Candidates.{cells, count_made, fields_of, least, run_
 use Rattle.txs_guard.specs.Mentioned.{flat}
 use Rattle.txs_guard.specs.Point.{IsPoint, IsTrueAt}
 use Rattle.txs_guard.specs.Query.{Query}
-use Rattle.txs_laws.proofs.rules.Tests.{put_closed, same_value-true, same_value_refl}
+use Rattle.txs_laws.proofs.rules.Tests.{put_closed, same_value-true, same_value_refl, cond_got, sym_same, then_run_from}
 use Rattle.txs_laws.proofs.rules.Lists.{In-append, In_mapped}
 use Rattle.txs_laws.proofs.solver.Members.{In_with_each, In_up_to, made, place_below}
-use Rattle.txs_laws.proofs.solver.Runs.{closed_gives, then_from, at_slot, place_gives}
+use Rattle.txs_laws.proofs.solver.Runs.{closed_gives, at_slot, place_gives}
+use Rattle.txs_laws.proofs.solver.Press.{In_run_up}
+use Rattle.txs_terms.proofs.typing.Lists.{same_some}
 
 -- ---- numbers between bounds
 
-In_count_up : (x y : ℤ) (n j : ℕ) → j ≤ n → y ≡ x +ℤ pos j → In y (run_up x n)
-In_count_up x y zero j h e = inl (omega (arith, ints))
-In_count_up x y (suc n) zero h e = inl (omega (arith, ints))
-In_count_up x y (suc n) (suc j) h e = inr (In_count_up (x +ℤ pos 1) y n j (omega arith) (omega (arith, ints)))
-
 up_by_In : (x y d s : ℤ) → s ≡ y -ℤ x → x ≤ℤ y → d ≡ s → (z e : ℤ) → x ≤ℤ z → z ≤ℤ y → e ≡ z -ℤ x → In z (up_by x d)
-up_by_In x y (pos n) s es l ed z (pos j) a b ee = In_count_up x z n j (omega (arith, ints)) (omega (arith, ints))
+up_by_In x y (pos n) s es l ed z (pos j) a b ee = In_run_up x z n j (omega (arith, ints)) (omega (arith, ints))
 up_by_In x y (pos n) s es l ed z (negsuc j) a b ee = absurd (omega (arith, ints))
 up_by_In x y (negsuc n) s es l ed z e a b ee = absurd (omega (arith, ints))
 
@@ -54,14 +51,11 @@ lowest_ge x z (y ∷ ys) h k = lowest_step x y z ys (int_lt y x) h (k y (inl ref
 abbrev Within' : List Value → List Value → Type 0
 Within' xs ys = (x : Value) → In x xs → In x ys
 
-pub some_list_same : {A : Type 0} {x y : A} → Some x ≡ Some y → x ≡ y
-some_list_same e = cc
-
 between_In : (ls hs : List ℤ) (z : ℤ) (vs : List Value) → between ls hs ≡ Some vs → ((y : ℤ) → In y ls → y ≤ℤ z) → ((y : ℤ) → In y hs → z ≤ℤ y) → In (num z) vs
 between_In [] hs z vs e a b = cc
 between_In (l ∷ ls) [] z vs e a b = cc
 between_In (l ∷ ls) (h ∷ hs) z vs e a b =
-    let q : map num (from_to (greatest l ls) (least h hs)) ≡ vs = some_list_same e in
+    let q : map num (from_to (greatest l ls) (least h hs)) ≡ vs = same_some e in
     subst (λ (ws : List Value). In (num z) ws) q
     (In_mapped num z (from_to (greatest l ls) (least h hs))
     (In_from_to (greatest l ls) (least h hs) z (greatest_le l z ls (a l (inl refl)) (λ y i. a y (inr i))) (lowest_ge h z hs (b h (inl refl)) (λ y i. b y (inr i)))))
@@ -71,10 +65,6 @@ between_In (l ∷ ls) (h ∷ hs) z vs e a b =
 -- the value at a slot keeps a bound
 abbrev Keeps : List Value → Bound → Type 0
 Keeps p b = (x : ℤ) → slice_get p b.of_slot ≡ Some (num x) → cond b.is_low (b.value ≤ℤ x) (x ≤ℤ b.value)
-
-cond_got : (b : Bool) (r : Run) (v : Value) (n : ℕ) → cond b r (bad long) ≡ got v n → r ≡ got v n
-cond_got true r v n e = e
-cond_got false r v n e = cc
 
 -- both sides gave values, and the operator made True of them
 record Sides (defs : Defs) (p : List Value) (a b : Expr) (op : Value → Value → ℕ → Run) : Type 0 where
@@ -92,8 +82,8 @@ record Sides (defs : Defs) (p : List Value) (a b : Expr) (op : Value → Value �
 sides_from : (defs : Defs) (p : List Value) (a b : Expr) (op : Value → Value → ℕ → Run) (h m n : ℕ)
     → then_run (run defs h (put (filled p) a) m) (λ x i. then_run (run defs h (put (filled p) b) i) (λ y. op x y)) ≡ got (bool true) n → Sides defs p a b op
 sides_from defs p a b op h m n e =
-    let s = then_from (run defs h (put (filled p) a) m) _ (bool true) n e in
-    let t = then_from (run defs h (put (filled p) b) s.1) _ (bool true) n s.3 in
+    let s = then_run_from (run defs h (put (filled p) a) m) _ (bool true) n e in
+    let t = then_run_from (run defs h (put (filled p) b) s.1) _ (bool true) n s.3 in
     record { left = s.0; right = t.0; height = h; from = m; mid = s.1; end = t.1; left_run = s.2; right_run = t.2; last = n; made_true = t.3 }
 
 equal_sides : (defs : Defs) (p : List Value) (a b : Expr) (h m n : ℕ) → run defs h (put (filled p) (equal a b)) m ≡ got (bool true) n
@@ -247,15 +237,6 @@ right_says concat p i k w b r e h x f = absurd h
 right_says differ p i k w b r e h x f = absurd h
 right_says char_at p i k w b r e h x f = absurd h
 
-sym_same : (x y : Value) → same_value x y ≡ same_value y x
-sym_same x y = go (same_value x y) (same_value y x) refl refl
-  where
-    go : (a b : Bool) → same_value x y ≡ a → same_value y x ≡ b → a ≡ b
-    go true true e h = refl
-    go false false e h = refl
-    go true false e h = let q = same_value-true x y e in absurd (both_ways _ h (ap (λ (z : Value). same_value y z) q ∙ same_value_refl y))
-    go false true e h = let q = same_value-true y x h in absurd (both_ways _ e (ap (λ (z : Value). same_value x z) q ∙ same_value_refl x))
-
 side_run : (defs : Defs) (p : List Value) (a c : Expr) (l m n : ℕ) (w : Value) → a ≡ c → run defs l (put (filled p) a) m ≡ got w n → run defs l (put (filled p) c) m ≡ got w n
 side_run defs p a c l m n w e r = ap (λ (z : Expr). run defs l (put (filled p) z) m) (sym e) ∙ r
 
@@ -361,10 +342,10 @@ one_plain : (c : ℕ) (o : Option (List Field)) (vs ws : List Value)
     → elim o [ None ↦ Some vs | Some fs ↦ elim fs [ [] ↦ Some (cons c no_value ∷ vs) | f ∷ gs ↦ None ] ] ≡ Some ws
     → Within' vs ws × ((fs : List Field) → o ≡ Some fs → (fs ≡ []) × In (cons c no_value) ws)
 one_plain c None vs ws e =
-    let q : vs ≡ ws = some_list_same e in ((λ x h. subst (λ (z : List Value). In x z) q h), (λ fs h. cc))
+    let q : vs ≡ ws = same_some e in ((λ x h. subst (λ (z : List Value). In x z) q h), (λ fs h. cc))
 one_plain c (Some []) vs ws e =
-    let q : cons c no_value ∷ vs ≡ ws = some_list_same e in
-    ((λ x h. subst (λ (z : List Value). In x z) q (inr h)), (λ fs h. ((let a : [] ≡ fs = some_list_same h in sym a), subst (λ (z : List Value). In (cons c no_value) z) q (inl refl))))
+    let q : cons c no_value ∷ vs ≡ ws = same_some e in
+    ((λ x h. subst (λ (z : List Value). In x z) q (inr h)), (λ fs h. ((let a : [] ≡ fs = same_some h in sym a), subst (λ (z : List Value). In (cons c no_value) z) q (inl refl))))
 one_plain c (Some (f ∷ gs)) vs ws e = cc
 
 rest_plain : (table : Table) (k c : ℕ) (r : Option (List Value)) (ws : List Value)
@@ -407,8 +388,8 @@ value_In table bs p i integer (bool b) vs k e h r = cc
 value_In table bs p i integer (text b) vs k e h r = cc
 value_In table bs p i integer (cons c us) vs k e h r = cc
 value_In table bs p i truth (num x) vs k e h r = cc
-value_In table bs p i truth (bool true) vs k e h r = subst (λ (z : List Value). In (bool true) z) (some_list_same r) (inr (inl refl))
-value_In table bs p i truth (bool false) vs k e h r = subst (λ (z : List Value). In (bool false) z) (some_list_same r) (inl refl)
+value_In table bs p i truth (bool true) vs k e h r = subst (λ (z : List Value). In (bool true) z) (same_some r) (inr (inl refl))
+value_In table bs p i truth (bool false) vs k e h r = subst (λ (z : List Value). In (bool false) z) (same_some r) (inl refl)
 value_In table bs p i truth (text b) vs k e h r = cc
 value_In table bs p i truth (cons c us) vs k e h r = cc
 value_In table bs p i string v vs k e h r = cc
@@ -422,11 +403,11 @@ pub both_some : (o : Option (List Value)) (o' : Option (List (List Value))) (ws 
     → (vs : List Value) × (vss : List (List Value)) × (o ≡ Some vs) × (o' ≡ Some vss) × (vs ∷ vss ≡ ws)
 both_some None o' ws e = cc
 both_some (Some vs) None ws e = cc
-both_some (Some vs) (Some vss) ws e = (vs, vss, refl, refl, some_list_same e)
+both_some (Some vs) (Some vss) ws e = (vs, vss, refl, refl, same_some e)
 
 slots_In : (table : Table) (bs : List Bound) (whole_point p : List Value) (ts : List Ty) (i : ℕ) (vss : List (List Value)) → AllKeep whole_point bs
     → ((j k : ℕ) → k ≡ i + j → slice_get whole_point k ≡ slice_get p j) → HaveTypes table p ts → every_slot table bs i ts ≡ Some vss → In p (cells vss)
-slots_In table bs w [] [] i vss k s h e = subst (λ (z : List (List Value)). In [] (cells z)) (some_list_same e) (inl refl)
+slots_In table bs w [] [] i vss k s h e = subst (λ (z : List (List Value)). In [] (cells z)) (same_some e) (inl refl)
 slots_In table bs w [] (t ∷ ts) i vss k s h e = absurd h
 slots_In table bs w (v ∷ p) [] i vss k s h e = absurd h
 slots_In table bs w (v ∷ p) (t ∷ ts) i vss k s h e =

@@ -109,7 +109,7 @@ unfolding marked
 marked_one a zero u = omega arith
 marked_one a (suc n) u = one_step a n (a (suc n)) refl u (marked_one a n u)
 
-either_step : (p q : Bool) (m k l : ℕ) → m ≤ k + l → cond (p || q) (suc m) m ≤ cond p (suc k) k + cond q (suc l) l
+pub either_step : (p q : Bool) (m k l : ℕ) → m ≤ k + l → cond (p || q) (suc m) m ≤ cond p (suc k) k + cond q (suc l) l
 either_step true true m k l h = omega arith
 either_step true false m k l h = omega arith
 either_step false true m k l h = omega arith

@@ -5,6 +5,7 @@ use Rattle.txs_terms.specs.Eval.{Defs, Run, got, bad, long, run, then_run, if_tr
 use Rattle.txs_terms.specs.Expr.{negate, negation, to_text, from_text, len, is_made_by, select, Expr, val, slot, local, constant, one, two, equal, both, either, choose, apply, build, let_in, put, filled}
 use Rattle.txs_guard.specs.Atom.{atoms_of}
 use Rattle.txs_laws.specs.Cells.{EndsAlike, EndAlike}
+use Rattle.txs_terms.proofs.under.Node.{then_alike}
 
 pub alike_front : (defs : Defs) (p q : List Value) (es gs : List Expr) → EndAlike defs p q (es ++ gs) → EndAlike defs p q es
 alike_front defs p q [] gs h = tt
@@ -14,11 +15,6 @@ pub alike_back : (defs : Defs) (p q : List Value) (es gs : List Expr) → EndAli
 alike_back defs p q [] gs h = h
 alike_back defs p q (e ∷ es) gs h = alike_back defs p q es gs h.1
 
--- then the same goes on
-pub then_alike : (r r' : Run) (go go' : Value → ℕ → Run) → r ≡ r' → ((w : Value) (k : ℕ) → go w k ≡ go' w k) → then_run r go ≡ then_run r' go'
-then_alike (got v n) r' go go' e k = subst (λ x. then_run (got v n) go ≡ then_run x go') e (k v n)
-then_alike (bad f) r' go go' e k = subst (λ x. then_run (bad f) go ≡ then_run x go') e refl
-
 if_alike : (x : Value) (a a' b b' : Run) → a ≡ a' → b ≡ b' → if_true x a b ≡ if_true x a' b'
 if_alike (num x) a a' b b' p q = refl
 if_alike (text x) a a' b b' p q = refl
@@ -26,7 +22,7 @@ if_alike (cons c vs) a a' b b' p q = refl
 if_alike (bool true) a a' b b' p q = p
 if_alike (bool false) a a' b b' p q = q
 
-entered : (t : Bool) (r r' : Run) → r ≡ r' → cond t r (bad long) ≡ cond t r' (bad long)
+pub entered : (t : Bool) (r r' : Run) → r ≡ r' → cond t r (bad long) ≡ cond t r' (bad long)
 entered t r r' e = ap (λ (x : Run). cond t x (bad long)) e
 
 pub atoms_decide : (defs : Defs) (p q : List Value) (e : Expr) → EndAlike defs p q (atoms_of e) → EndsAlike defs p q e

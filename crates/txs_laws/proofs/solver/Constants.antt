@@ -15,6 +15,7 @@ use Rattle.txs_laws.proofs.typing.Facts.{Facts}
 use Rattle.txs_laws.proofs.rules.Lists.{In-append}
 use Rattle.txs_laws.proofs.solver.Members.{In-flat}
 use Rattle.txs_laws.proofs.solver.Atoms.{ConstantsFit}
+use Rattle.txs_laws.proofs.solver.Runs.{value_got}
 
 -- ---- values of a type
 
@@ -158,10 +159,6 @@ module _ (table : Table) (signatures : Signatures) where
     side_typed s (let_in x a b) h i = absurd i
 
 -- ---- the constants of a query
-
-value_got : (r : Run) (v : Value) → value_in r ≡ Some v → (n : ℕ) × (r ≡ got v n)
-value_got (got w n) v e = (n, (let q : w ≡ v = cc in ap (λ (z : Value). got z n) q))
-value_got (bad f) v e = cc
 
 -- the value of a well typed side without slots is of the side's type
 pub fixed_typed : Facts → (q : Query) (signatures : Signatures) → AreTyped q.defs signatures → (slots : List Ty) (a : Expr) (v : Value) (t : Ty)

@@ -14,7 +14,7 @@ use Rattle.txs_guard.specs.Place.{Spot, spot_of, spot_type, is_type, same_ty, is
 use Rattle.txs_guard.specs.Point.{IsPoint}
 use Rattle.txs_guard.specs.Query.{Query}
 use Rattle.txs_laws.specs.Cells.{EndsAlike, EndAlike}
-use Rattle.txs_laws.proofs.rules.Tests.{put_closed, same_value-true, same_value_refl}
+use Rattle.txs_laws.proofs.rules.Tests.{put_closed, same_value-true, same_value_refl, sym_same}
 use Rattle.std.specs.Cmp.Lexicographic.{bytes_decides}
 use Rattle.txs_laws.proofs.solver.Press.{SameOrder, least_is, pressed_order, pressed_fixed}
 use Rattle.txs_laws.proofs.solver.Texts.{Text}
@@ -23,6 +23,7 @@ use Rattle.txs_laws.proofs.solver.Members.{In_flat}
 use Rattle.txs_laws.proofs.solver.Runs.{place_from, map_run, place_alike, place_gives, closed_gives}
 use Rattle.txs_laws.proofs.solver.Mentions.{side_mentioned, constant_mentioned, In_once, place_typed}
 use Rattle.txs_laws.proofs.solver.Atoms.{ConstantsFit, numbers_there, shape, IsNumber, IsText, words_same, keeps, known_below, cell_of, cell_is}
+use Rattle.txs_laws.proofs.solver.Congruence.{entered}
 
 -- ---- runs of one and of two sides
 
@@ -47,9 +48,6 @@ two_alike (got x m) ra' rb rb' f g op e h k =
     inner (got y n) r' e h = ap (λ (z : Run). then_run z (λ u. op (f x) u)) e ∙ h y n refl
     inner (bad b) r' e h = ap (λ (z : Run). then_run z (λ u. op (f x) u)) e
 two_alike (bad x) ra' rb rb' f g op e h k = ap (λ (z : Run). then_run z (λ u i. then_run (rb' i) (λ y. op u y))) e
-
-entered : (t : Bool) (r r' : Run) → r ≡ r' → cond t r (bad long) ≡ cond t r' (bad long)
-entered t r r' e = ap (λ (x : Run). cond t x (bad long)) e
 
 -- ---- types
 
@@ -87,14 +85,10 @@ nil_right : (p : Path) → p ++ [] ≡ p
 nil_right [] = refl
 nil_right (s ∷ p) = ap (λ (z : Path). s ∷ z) (nil_right p)
 
-sym_same : (x y : Value) → same_value x y ≡ same_value y x
-sym_same x y = go (same_value x y) (same_value y x) refl refl
-  where
-    go : (a b : Bool) → same_value x y ≡ a → same_value y x ≡ b → a ≡ b
-    go true true e h = refl
-    go false false e h = refl
-    go true false e h = let q = same_value-true x y e in absurd (both_ways _ h (ap (λ (z : Value). same_value y z) q ∙ same_value_refl y))
-    go false true e h = let q = same_value-true y x h in absurd (both_ways _ e (ap (λ (z : Value). same_value x z) q ∙ same_value_refl x))
+-- the Int that a value is
+abbrev integer_in : Value → Option ℤ
+integer_in (num x) = Some x
+integer_in _ = None
 
 -- the Int that a value is
 abbrev integer_in : Value → Option ℤ

@@ -174,7 +174,7 @@ In_sorted : (x : ℤ) (ys : List ℤ) → fits x ≡ true → In x ys → In x (
 In_sorted x [] f h = absurd h
 In_sorted x (y ∷ ys) f h = sorted_by x y ys (fits y) refl f h (In_sorted x ys f)
 
-In_run_up : (x y : ℤ) (n j : ℕ) → j ≤ n → y ≡ x +ℤ pos j → In y (run_up x n)
+pub In_run_up : (x y : ℤ) (n j : ℕ) → j ≤ n → y ≡ x +ℤ pos j → In y (run_up x n)
 In_run_up x y zero j h e = inl (omega (arith, ints))
 In_run_up x y (suc n) zero h e = inl (omega (arith, ints))
 In_run_up x y (suc n) (suc j) h e = inr (In_run_up (x +ℤ pos 1) y n j (omega arith) (omega (arith, ints)))

@@ -15,9 +15,10 @@ use Rattle.txs_guard.specs.Point.{IsPoint, IsTypedQuery}
 use Rattle.txs_laws.proofs.typing.Facts.{Facts}
 use Rattle.txs_laws.proofs.rules.Lists.{In-append, In-map}
 use Rattle.txs_laws.proofs.solver.Press.{fits_between}
-use Rattle.txs_laws.proofs.solver.Bounds.{left_bound, bounded, both_some, some_list_same}
+use Rattle.txs_laws.proofs.solver.Bounds.{left_bound, bounded, both_some}
 use Rattle.txs_laws.proofs.solver.Constants.{typed_fits, fixed_typed, IsTruth, IsTyped, equal_typed, two_typed}
 use Rattle.txs_laws.proofs.solver.Typed.{In-with_each, types_of}
+use Rattle.txs_terms.proofs.typing.Lists.{same_some}
 
 -- ---- bounds come of Ints in range
 
@@ -134,7 +135,7 @@ module _ (table : Table) where
   between_typed [] hs vs e a b w h = cc
   between_typed (l ∷ ls) [] vs e a b w h = cc
   between_typed (l ∷ ls) (u ∷ hs) vs e a b w h =
-      let q : map num (from_to (greatest l ls) (least u hs)) ≡ vs = some_list_same e in
+      let q : map num (from_to (greatest l ls) (least u hs)) ≡ vs = same_some e in
       let m = In-map num w (from_to (greatest l ls) (least u hs)) (subst (λ (z : List Value). In w z) (sym q) h) in
       let r = up_between (greatest l ls) (least u hs) m.0 (least u hs -ℤ greatest l ls) refl m.1 in
       let x = a l (inl refl) in
@@ -147,8 +148,8 @@ module _ (table : Table) where
   -- constructors without fields
   one_made : (k c : ℕ) (o : Option (List Field)) (vs ws : List Value) → fields_of (place_of table c) k ≡ o
       → elim o [ None ↦ Some vs | Some fs ↦ elim fs [ [] ↦ Some (cons c no_value ∷ vs) | f ∷ gs ↦ None ] ] ≡ Some ws → AllOf (named k) vs → AllOf (named k) ws
-  one_made k c None vs ws f e a w h = a w (subst (λ (z : List Value). In w z) (sym (some_list_same e)) h)
-  one_made k c (Some []) vs ws f e a w h = pick (subst (λ (z : List Value). In w z) (sym (some_list_same e)) h)
+  one_made k c None vs ws f e a w h = a w (subst (λ (z : List Value). In w z) (sym (same_some e)) h)
+  one_made k c (Some []) vs ws f e a w h = pick (subst (λ (z : List Value). In w z) (sym (same_some e)) h)
     where
       pick : In w (cons c no_value ∷ vs) → has_type table w (named k) ≡ true
       pick (inl x) =
@@ -164,7 +165,7 @@ module _ (table : Table) where
   rest_made k c (Some vs) ws e a w h = one_made k c (fields_of (place_of table c) k) vs ws refl e (a vs refl) w h
 
   plain_typed : (k : ℕ) (cs : List ℕ) (ws : List Value) → plain_made table k cs ≡ Some ws → AllOf (named k) ws
-  plain_typed k [] ws e w h = absurd (subst (λ (z : List Value). In w z) (sym (some_list_same e)) h)
+  plain_typed k [] ws e w h = absurd (subst (λ (z : List Value). In w z) (sym (same_some e)) h)
   plain_typed k (c ∷ cs) ws e w h = rest_made k c (plain_made table k cs) ws e (λ vs x. plain_typed k cs vs x) w h
 
   module _ (bs : List Bound) (fit : (b : Bound) → In b bs → BoundFits b) where
@@ -184,7 +185,7 @@ module _ (table : Table) where
 
     value_typed : (i : ℕ) (t : Ty) (vs : List Value) → every_value table bs i t ≡ Some vs → AllOf t vs
     value_typed i integer vs e w h = between_typed (bounds_for i true bs) (bounds_for i false bs) vs e (low_known i) (high_known i) w h
-    value_typed i truth vs e w h = pick (subst (λ (z : List Value). In w z) (sym (some_list_same e)) h)
+    value_typed i truth vs e w h = pick (subst (λ (z : List Value). In w z) (sym (same_some e)) h)
       where
         pick : In w (bool false ∷ bool true ∷ []) → has_type table w truth ≡ true
         pick (inl x) = ap (λ (z : Value). has_type table z truth) x
@@ -194,7 +195,7 @@ module _ (table : Table) where
     value_typed i (named k) vs e w h = plain_typed k (from 0 (count_made table)) vs e w h
 
     slots_typed : (i : ℕ) (ts : List Ty) (vss : List (List Value)) → every_slot table bs i ts ≡ Some vss → (c : List Value) → In c (cells vss) → HaveTypes table c ts
-    slots_typed i [] vss e c h = none (subst (λ (z : List (List Value)). In c (cells z)) (sym (some_list_same e)) h)
+    slots_typed i [] vss e c h = none (subst (λ (z : List (List Value)). In c (cells z)) (sym (same_some e)) h)
       where
         none : In c ([] ∷ []) → HaveTypes table c []
         none (inl x) = subst (λ (z : List Value). HaveTypes table z []) (sym x) tt

@@ -12,6 +12,7 @@ use Rattle.txs_guard.specs.Place.{Spot, spot_of, under}
 use Rattle.txs_laws.proofs.rules.Limits.{run_better}
 use Rattle.txs_laws.proofs.solver.Squash.{Shape, fields_at, squash, squash_each, along, along_push, step, follow, follow_push, map_some, field_of_squashed}
 use Rattle.txs_laws.proofs.solver.Members.{squash_all}
+use Rattle.txs_laws.proofs.rules.Tests.{cond_got, val_run, then_run_from}
 
 -- ---- places
 
@@ -127,26 +128,14 @@ place_alike defs s ss p (selected_at {e = e} {i = i} {p = q} c j h) r m (suc lef
 
 -- ---- what a place gives is what stands there
 
-cond_got : (b : Bool) (r : Run) (v : Value) (n : ℕ) → cond b r (bad long) ≡ got v n → r ≡ got v n
-cond_got true r v n e = e
-cond_got false r v n e = cc
-
-val_gives : (defs : Defs) (left : ℕ) (v w : Value) (m n : ℕ) → run defs left (val v) m ≡ got w n → v ≡ w
-val_gives defs zero v w m n e = cc
-val_gives defs (suc left) v w m n e = let k = cond_got (ltb m node_limit) (got v (suc m)) w n e in cc
-
 slot_gives : (defs : Defs) (left i : ℕ) (w : Value) (m n : ℕ) → run defs left (slot i) m ≡ got w n → ⊥
 slot_gives defs zero i w m n e = cc
 slot_gives defs (suc left) i w m n e = let k = cond_got (ltb m node_limit) (bad wrong) w n e in cc
 
 base_gives : (defs : Defs) (p : List Value) (i left m n : ℕ) (w : Value) → run defs left (filled p i) m ≡ got w n → slice_get p i ≡ Some w
 base_gives defs [] i left m n w e = absurd (slot_gives defs left i w m n e)
-base_gives defs (v ∷ vs) zero left m n w e = ap Some (val_gives defs left v w m n e)
+base_gives defs (v ∷ vs) zero left m n w e = ap Some (val_run defs left v w m n e)
 base_gives defs (v ∷ vs) (suc i) left m n w e = base_gives defs vs i left m n w e
-
-pub then_from : (r : Run) (go : Value → ℕ → Run) (v : Value) (n : ℕ) → then_run r go ≡ got v n → (w : Value) × (m : ℕ) × (r ≡ got w m) × (go w m ≡ got v n)
-then_from (got w m) go v n e = (w, m, refl, e)
-then_from (bad f) go v n e = cc
 
 fetched : (b : Bool) (o : Option Value) (w : Value) (m n : ℕ) → after (cond b (selected o) (broken selector)) m ≡ got w n → cond b o None ≡ Some w
 fetched true None w m n e = cc
@@ -165,14 +154,14 @@ place_gives defs p (at_slot i) left m n w h = base_gives defs p i left m n w h
 place_gives defs p (selected_at {e = e} {i = i} {p = q} c j g) zero m n w h = cc
 place_gives defs p (selected_at {e = e} {i = i} {p = q} c j g) (suc left) m n w h =
     let k = cond_got (ltb m node_limit) (then_run (run defs left (put (filled p) e) (suc m)) (λ x. after (unary defs.table (select c j) x))) w n h in
-    let t = then_from (run defs left (put (filled p) e) (suc m)) (λ x. after (unary defs.table (select c j) x)) w n k in
+    let t = then_run_from (run defs left (put (filled p) e) (suc m)) (λ x. after (unary defs.table (select c j) x)) w n k in
     let f = place_gives defs p g left (suc m) t.1 t.0 t.2 in
     let s = select_gives defs.table c j t.0 w t.1 n t.3 in
     follow_push (slice_get p i) q (c, j) ∙ (ap (step (c, j)) f ∙ s)
 
 -- ---- an expression without slots gives its value wherever it gives one
 
-value_got : (r : Run) (v : Value) → value_in r ≡ Some v → (n : ℕ) × (r ≡ got v n)
+pub value_got : (r : Run) (v : Value) → value_in r ≡ Some v → (n : ℕ) × (r ≡ got v n)
 value_got (got w n) v e = (n, (let q : w ≡ v = cc in ap (λ (z : Value). got z n) q))
 value_got (bad f) v e = cc
 

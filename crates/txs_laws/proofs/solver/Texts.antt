@@ -9,6 +9,7 @@ use Rattle.txs_terms.specs.Rules.{In}
 use Rattle.txs_guard.specs.Candidates.{fresh_text, fresh_from, fresh_texts, text_candidates}
 use Rattle.txs_guard.specs.Mentioned.{any_is}
 use Rattle.txs_laws.proofs.rules.Lists.{In_front, In_back}
+use Rattle.txs_laws.proofs.solver.Climb.{either_step}
 
 abbrev pub Text : Type 0
 Text = List ℕ
@@ -91,12 +92,6 @@ hits_one : (a : ℕ → Bool) (k n : ℕ) → ((i j : ℕ) → a i ≡ true → 
 unfolding hits
 hits_one a k zero u = omega arith
 hits_one a k (suc n) u = hits_step a k n (a k) refl u (hits_one a (suc k) n u)
-
-either_step : (p q : Bool) (m k l : ℕ) → m ≤ k + l → cond (p || q) (suc m) m ≤ cond p (suc k) k + cond q (suc l) l
-either_step true true m k l h = omega arith
-either_step true false m k l h = omega arith
-either_step false true m k l h = omega arith
-either_step false false m k l h = omega arith
 
 hits_either : (a b : ℕ → Bool) (k n : ℕ) → hits (λ i. a i || b i) k n ≤ hits a k n + hits b k n
 unfolding hits

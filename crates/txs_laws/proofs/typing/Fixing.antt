@@ -15,6 +15,7 @@ use Rattle.txs_laws.proofs.rules.Put.{then_put, put_put, put_put_all, put_put_te
 use Rattle.txs_laws.proofs.typing.Terms.{Carries, put_guards}
 use Rattle.txs_laws.proofs.typing.Slots.{Points, points-length, Renames, renamed_slots, without_slot}
 use Rattle.txs_terms.proofs.typing.Runs.{run_well, EndsWell}
+use Rattle.txs_laws.proofs.rules.Left.{left_slot}
 
 -- ---- loose slots
 
@@ -47,36 +48,6 @@ kept_in p (suc n) k i h = by (p k) h (kept_in p n (suc k) i)
         → (has (kept p (from (suc k) n)) i ≡ true → i < suc k + n) → i < k + suc n
     by true g r = first (eqb k i) refl g r
     by false g r = let e = r g in omega arith
-
-not_kept : (p : ℕ → Bool) (n k i : ℕ) → k ≤ i → i < k + n → has (kept p (from k n)) i ≡ false → p i ≡ false
-not_kept p zero k i a b h = absurd (omega arith)
-not_kept p (suc n) k i a b h = by (p k) refl h (λ c. not_kept p n (suc k) i c (omega arith))
-  where
-    first : (b : Bool) → eqb k i ≡ b → (b || has (kept p (from (suc k) n)) i) ≡ false → (suc k ≤ i → has (kept p (from (suc k) n)) i ≡ false → p i ≡ false) → p i ≡ false
-    first true q g r = cc
-    first false q g r = r (let n = eqb-false' q in omega arith) g
-      where
-        eqb-false' : eqb k i ≡ false → (k ≡ i → ⊥)
-        eqb-false' e f = let t = eq-eqb k i f in cc
-
-    same : (b : Bool) → eqb k i ≡ b → p k ≡ false → has (kept p (from (suc k) n)) i ≡ false → (suc k ≤ i → has (kept p (from (suc k) n)) i ≡ false → p i ≡ false) → p i ≡ false
-    same true q e g r = subst (λ y. p y ≡ false) (eqb-true k i q) e
-    same false q e g r = r (let n = eqb-false' q in omega arith) g
-      where
-        eqb-false' : eqb k i ≡ false → (k ≡ i → ⊥)
-        eqb-false' e f = let t = eq-eqb k i f in cc
-
-    by : (b : Bool) → p k ≡ b → has (cond b (k ∷ kept p (from (suc k) n)) (kept p (from (suc k) n))) i ≡ false
-        → (suc k ≤ i → has (kept p (from (suc k) n)) i ≡ false → p i ≡ false) → p i ≡ false
-    by true e g r = first (eqb k i) refl g r
-    by false e g r = same (eqb k i) refl e g r
-
-left_slot : (ps : List ℕ) (size i : ℕ) → i < size → has (loose_slots ps size) i ≡ false → has ps i ≡ true
-left_slot ps size i h e = by (has ps i) (not_kept (λ j. not (has ps j)) size 0 i (omega arith) (omega arith) e)
-  where
-    by : (b : Bool) → not b ≡ false → b ≡ true
-    by true q = refl
-    by false q = cc
 
 -- where a slot that is left stands
 at_position : (slots : List Ty) (ps : List ℕ) (others : List Ty) (i : ℕ) (t : Ty) → Points slots ps others → has ps i ≡ true → slice_get slots i ≡ Some t

@@ -9,6 +9,7 @@ use Rattle.txs_terms.specs.Eval.{Fault, division, range, selector, form, high, l
 use Rattle.txs_terms.specs.Typed.{UnaryOf, negate_of, negation_of, to_text_of, from_text_of, len_of, made_by_of, select_of, BinaryOf, plus_of, minus_of, times_of, divide_of, remainder_of, concat_of, differ_of, less_of, at_most_of, more_of, at_least_of, char_of as char_at_of}
 use Rattle.txs_terms.proofs.typing.Numbers.{place_at, fields_same}
 use Rattle.txs_terms.proofs.typing.Reading.{IfTyped, read_typed}
+use Rattle.txs_terms.proofs.typing.Lists.{same_some}
 
 -- a fault that a well typed expression may have
 abbrev pub IsRight : Fault → Type 0
@@ -32,14 +33,8 @@ typed_field table no_value (s ∷ ts) j t v h a b = cc
 typed_field table (and_value w vs) [] j t v h a b = cc
 typed_field table (and_value w vs) (s ∷ ts) zero t v h a b =
     let p = and_parts (has_type table w s) (has_fields table vs (Some ts)) h in
-    let x : w ≡ v = same_value' b in let y : s ≡ t = same_ty' a in
+    let x : w ≡ v = same_some b in let y : s ≡ t = same_some a in
     subst (λ k. HasType table k t) x (subst (λ k. HasType table w k) y p.0)
-  where
-    same_value' : {x y : Value} → Some x ≡ Some y → x ≡ y
-    same_value' q = cc
-
-    same_ty' : {x y : Ty} → Some x ≡ Some y → x ≡ y
-    same_ty' q = cc
 typed_field table (and_value w vs) (s ∷ ts) (suc j) t v h a b =
     typed_field table vs ts j t v (and_parts (has_type table w s) (has_fields table vs (Some ts)) h).1 a b
 

@@ -9,7 +9,7 @@ use Rattle.txs_terms.proofs.under.Seen.{local_under, seen, each_seen, seen_fille
 abbrev pub environment : List Value → List Value → Environment
 environment vs ws = record { slots = vs; locals = ws }
 
-then_alike : (r s : Run) (f g : Value → ℕ → Run) → r ≡ s → ((v : Value) (m : ℕ) → f v m ≡ g v m) → then_run r f ≡ then_run s g
+pub then_alike : (r s : Run) (f g : Value → ℕ → Run) → r ≡ s → ((v : Value) (m : ℕ) → f v m ≡ g v m) → then_run r f ≡ then_run s g
 then_alike r s f g p h = λ k. then_run (p k) (λ v m. h v m k)
 
 thens_alike : (r s : Runs) (f g : List Value → ℕ → Run) → r ≡ s → ((vs : List Value) (m : ℕ) → f vs m ≡ g vs m) → then_runs r f ≡ then_runs s g

@@ -1,17 +1,18 @@
 use Rattle.std.proofs.Common.{FitsSigned}
 use Rattle.std.specs.Int.{w128}
 use Rattle.std.proofs.lemmas.Int.{to_z-of_z}
-use Rattle.txs_terms.proofs.Actions.{in_range_fits, int_action}
+use Rattle.txs_values.proofs.Ranges.{fits_true}
+use Rattle.txs_terms.proofs.Actions.{int_action}
 use Rattle.txs_terms.proofs.action.Action.on.Goals as goal
 
 pub returns-clause-int : goal.returns-clause-int
 returns-clause-int c =
     let fits : FitsSigned w128 c.args.value = c.ranges.value in
     let is = simp to_z-of_z at c.in_ok-parts.ensures in
-    rw is (in_range_fits c.args.value fits)
+    rw is (fits_true c.args.value fits)
 
 pub returns-clause-action : goal.returns-clause-action
 returns-clause-action c table scope h =
     let fits : FitsSigned w128 c.args.value = c.ranges.value in
     let is = simp to_z-of_z at c.in_ok-parts.ensures in
-    rw is (int_action table scope c.args.channel c.args.value (in_range_fits c.args.value fits) h)
+    rw is (int_action table scope c.args.channel c.args.value (fits_true c.args.value fits) h)
