@@ -90,11 +90,6 @@ abbrev integer_in : Value → Option ℤ
 integer_in (num x) = Some x
 integer_in _ = None
 
--- the Int that a value is
-abbrev integer_in : Value → Option ℤ
-integer_in (num x) = Some x
-integer_in _ = None
-
 -- an Int that keeps its order, or another value that stays
 data NumberLike (q : Query) (p : List Value) (f : Value → Value) : Value → Type 0 where
   as_number : (x : ℤ) → f (num x) ≡ num ((shape q p).number x) → IsNumber q p x → NumberLike q p f (num x)
