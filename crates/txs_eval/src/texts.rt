@@ -53,7 +53,7 @@ fn joined(alloc: Global, a: &Text, b: &Text) -> Result<Value, Stop>
     sized(Value::Text(Text::from_string(text)))
 }
 
-/// The character at a place of the text.
+/// The character at an index of the text.
 pub fn char_at(alloc: Global, text: &Text, at: i128) -> Result<Value, Stop>
     ensures { Comes result (spec.char_from text.now at) }
 {

@@ -27,7 +27,7 @@ low i x = record { of_slot = i; is_low = true; value = x } ∷ []
 abbrev pub high : ℕ → ℤ → List Bound
 high i x = record { of_slot = i; is_low = false; value = x } ∷ []
 
--- the bounds that an order operator after a slot and before an Int is
+-- the bound of slot i that this operator sets where x is its right side
 abbrev pub operator_bounds : Binary → ℕ → ℤ → List Bound
 operator_bounds less_than i x = high i (x -ℤ pos 1)
 operator_bounds at_most i x = high i x

@@ -35,7 +35,7 @@ pub enum Binary {
     AtMost,
     MoreThan,
     AtLeast,
-    /// `at`: the character at a place of a text.
+    /// `at`: the character at an index of a text.
     CharAt,
 }
 

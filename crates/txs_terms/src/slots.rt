@@ -69,11 +69,11 @@ fn fill_expr(alloc: Global, expr: &Expr, values: &[Value]) -> Result<Expr, NoMem
 fn fill_slot(alloc: Global, slot: u32, values: &[Value]) -> Result<Expr, NoMemory>
     ensures { IfOk result (λ e. expr_of e ≡ filled (values_of values.now) slot) }
 {
-    let place = slot as usize;
-    if place < values.len() {
-        Ok(Expr::Value(copy_value(alloc, &values[place])?))
+    let index = slot as usize;
+    if index < values.len() {
+        Ok(Expr::Value(copy_value(alloc, &values[index])?))
     } else {
-        Ok(Expr::Slot((place - values.len()) as u32))
+        Ok(Expr::Slot((index - values.len()) as u32))
     }
 }
 

@@ -16,6 +16,7 @@ use Rattle.txs_terms.specs.Action.{Scope}
 use Rattle.txs_terms.specs.Term.{take, Term, give, prefix, choice, call}
 use Rattle.txs_terms.specs.Rules.{Model}
 use Rattle.txs_terms.specs.Typed.{Signature, ProcessSignature, Signatures, AreTypes, Of, IsTable, ExitsWith, OfTerm, IsTypedModel, WellTyped, negation_of, made_by_of, select_of, val_of, slot_of, one_of, choose_of, apply_of, build_of, none_of, more_of'}
+use Rattle.txs_terms.proofs.typing.Lists.{same_some}
 
 abbrev field : List ℕ → Ty → Field
 field name t = record { name = name; ty = t }
@@ -78,9 +79,6 @@ nil_place = refl
 cell_place : place_of table 1 ≡ Some (record { ty = 0; constructor = cell })
 cell_place = refl
 
-some_same : {A : Type 0} {p q : A} → Some p ≡ Some q → p ≡ q
-some_same e = cc
-
 none_some : {A : Type 0} {p : A} → ◌≡◌ {A = Option A} None (Some p) → ⊥
 none_some e = cc
 
@@ -96,8 +94,8 @@ of_table = record { defaults = defaults; known = known }
     defaults (suc k) l = absurd (omega arith)
 
     known : (c : ℕ) (p : Place) → place_of table c ≡ Some p → Known p
-    known zero p e = subst Known (some_same e) tt
-    known (suc zero) p e = subst Known (some_same e) (tt, (omega arith, tt))
+    known zero p e = subst Known (same_some e) tt
+    known (suc zero) p e = subst Known (same_some e) (tt, (omega arith, tt))
     known (suc (suc c)) p e = absurd (none_some e)
 
 nil_of : {slots : List Ty} → Of table signatures slots [] empty (named 0)
@@ -140,13 +138,13 @@ BodyHas s = (b : Term) × (slice_get queue.bodies 0 ≡ Some b) × ((exit_types 
 of_functions : (f : ℕ) (s : Signature) → slice_get signatures.functions f ≡ Some s
     → (e : Expr) × (slice_get queue.defs.functions f ≡ Some e) × Of table signatures s.takes [] e s.gives
 unfolding AddHas
-of_functions zero s e = subst AddHas (some_same e) (add, refl, add_of)
+of_functions zero s e = subst AddHas (same_some e) (add, refl, add_of)
 of_functions (suc f) s e = absurd (none_some e)
 
 of_bodies : (p : ℕ) (s : ProcessSignature) → slice_get signatures.processes p ≡ Some s
     → (b : Term) × (slice_get queue.bodies p ≡ Some b) × ((exit_types : List Ty) → ExitsWith s.exit_types exit_types → OfTerm table signatures s.formals s.takes exit_types b)
 unfolding BodyHas
-of_bodies zero s e = subst BodyHas (some_same e) (body, refl, λ exit_types x. of_body exit_types)
+of_bodies zero s e = subst BodyHas (same_some e) (body, refl, λ exit_types x. of_body exit_types)
 of_bodies (suc p) s e = absurd (none_some e)
 
 model_typed : IsTypedModel queue signatures

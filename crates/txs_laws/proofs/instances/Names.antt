@@ -5,10 +5,7 @@ use Rattle.txs_terms.specs.Action.{Channels, in_order}
 use Rattle.txs_terms.specs.Term.{Offer, Term, stop, exits, prefix, step, guard, choice, par, enable, disable, interrupt, hide, call, bind, machine, hit, miss, put_offer, put_term, offer_at, with_channels}
 use Rattle.txs_terms.specs.Rules.{offered}
 use Rattle.txs_laws.specs.Channels.{names_in, gates_in, hidden_in}
-
-put_offered : (f : Puts) (os : List Offer) → offered (map (put_offer f) os) ≡ offered os
-put_offered f [] = refl
-put_offered f (o ∷ os) = ap (λ cs. o.channel ∷ cs) (put_offered f os)
+use Rattle.txs_laws.proofs.typing.Terms.{offered_put}
 
 offered_with : (f : ℕ → ℕ) (os : List Offer) → offered (map (offer_at f) os) ≡ map f (offered os)
 offered_with f [] = refl
@@ -22,7 +19,7 @@ map-append f (x ∷ xs) ys = ap (λ l. f x ∷ l) (map-append f xs ys)
 pub names_put : (f : Puts) (t : Term) → names_in (put_term f t) ≡ names_in t
 names_put f stop = refl
 names_put f (exits es) = refl
-names_put f (prefix os gs t) = let p = put_offered f os in let q = names_put f t in cc
+names_put f (prefix os gs t) = let p = offered_put f os in let q = names_put f t in cc
 names_put f (step gs t) = names_put f t
 names_put f (guard gs t) = names_put f t
 names_put f (choice a b) = let p = names_put f a in let q = names_put f b in cc

@@ -12,6 +12,10 @@ use Rattle.txs_laws.proofs.typing.Sides.{sides_map}
 use Rattle.txs_terms.proofs.typing.Lists.{joined_again, joined_none}
 use Rattle.txs_terms.proofs.typing.Putting.{Suits, put_typed, filled_suits}
 
+pub offered_put : (f : Puts) (os : List Offer) → offered (map (put_offer f) os) ≡ offered os
+offered_put f [] = refl
+offered_put f (o ∷ os) = ap (λ l. o.channel ∷ l) (offered_put f os)
+
 module _ (table : Table) (signatures : Signatures) where
   -- what is put for a slot has the slot's type, with any slots after
   abbrev pub Carries : Puts → List Ty → List Ty → Type 0
@@ -62,10 +66,6 @@ module _ (table : Table) (signatures : Signatures) where
     put_typed table signatures h.0 f others (carries_here f slots others c),
     put_bindings_fit f (slots ++ t ∷ []) (others ++ t ∷ []) (carries_more f slots others (t ∷ []) c) es ts h.1,
   )
-
-  offered_put : (f : Puts) (os : List Offer) → offered (map (put_offer f) os) ≡ offered os
-  offered_put f [] = refl
-  offered_put f (o ∷ os) = ap (λ l. o.channel ∷ l) (offered_put f os)
 
   pub put_term_typed : (t : Term) (f : Puts) (scope : Scope) (slots others exit_types : List Ty) → Carries f slots others
       → OfTerm table signatures scope slots exit_types t → OfTerm table signatures scope others exit_types (put_term f t)
