@@ -5,7 +5,7 @@ use std::alloc::Global;
 use txs_values::{NoMemory, Text, Ty, Value, copy_value};
 
 /// An operator on one value.
-#[derive(Clone, Copy, Debug, PartialEq, Eq)]
+#[derive(Clone, Copy, Debug)]
 pub enum Unary {
     Negate,
     Not,

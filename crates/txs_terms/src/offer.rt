@@ -6,7 +6,7 @@ use std::alloc::Global;
 use txs_values::{NoMemory, Text};
 
 /// `! e` or `? x`.
-#[derive(Debug, Drop)]
+#[derive(Drop)]
 pub enum Position {
     Give(Expr),
     Take(Text),
@@ -16,7 +16,7 @@ pub enum Position {
 pub type Positions = Items<Position>;
 
 /// A channel with what is offered at each of its positions.
-#[derive(Debug, Drop)]
+#[derive(Drop)]
 pub struct Offer {
     pub channel: u32,
     pub positions: Positions,

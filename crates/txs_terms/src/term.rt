@@ -25,7 +25,7 @@ pub struct Call {
 }
 
 /// A behaviour in which values stand for the variables that are known.
-#[derive(Debug, Drop)]
+#[derive(Drop)]
 pub struct Term {
     pub(crate) tree: Tree,
 }

@@ -8,7 +8,7 @@ use std::alloc::Global;
 use txs_values::NoMemory;
 
 /// What a term is made of. A prefix without offers is an internal step.
-#[derive(Debug, Drop)]
+#[derive(Drop)]
 pub enum Tree {
     Stop,
     Prefix(Offers, Exprs, Boxed<Tree>),
