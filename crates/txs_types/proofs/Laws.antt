@@ -1,6 +1,6 @@
 -- What holds of the definitions in specs/, as statements: the files beside prove each.
 use Rattle.std.specs.Prelude.{◌≡◌, ◌⊎◌, ℕ, List, [], Option, Some, slice_get}
-use Rattle.txs_values.specs.Value.{Ty, Table, Place, place_of, field_types}
+use Rattle.txs_values.specs.Value.{Ty, Place, place_of, field_types}
 use Rattle.txs_terms.specs.Expr.{Expr}
 use Rattle.txs_terms.specs.Typed.{AreTypes, Of}
 use Rattle.txs_terms.specs.Defs.{HaveHeaders, HaveConstantTypes, Definitions, signatures_of, AreDefined}

@@ -20,7 +20,7 @@ use txs_terms::{ConstantDef, FunctionDef};
 use txs_values::NoMemory;
 
 /// The functions, or the constants, so far, and the fault that decides in the others.
-#[derive(Debug, Drop)]
+#[derive(Drop)]
 pub struct Collected<T> {
     pub list: Items<T>,
     pub fault: Option<TypeFault>,

@@ -3,15 +3,14 @@ ghost use Rattle.txs_values.specs.View.{ty_of};
 ghost use Rattle.txs_values.specs.TableView.{field_of};
 ghost use Rattle.txs_types.specs.declared.fault.TypeFault.TheVariants as fault;
 ghost use Rattle.txs_types.specs.Files as files;
-ghost use Rattle.txs_types.specs.inner.Told.{Finds};
-ghost use Rattle.txs_types.specs.inner.Among.{AnyUndefined};
+ghost use Rattle.txs_types.specs.inner.Among.{FindsUndefined};
 
 use crate::fault::TypeFault;
 use crate::least::least;
 use crate::numbers::number_of;
 use sqlite_items::Items;
 use std::alloc::Global;
-use txs_syntax::{DeclList, Name};
+use txs_syntax::{ConDef, DeclList, Name};
 use txs_values::{FieldDef, FieldDefs, NoMemory, Text, Ty};
 
 /// The number of the type of this name; if there is none, the number after the last.
@@ -125,7 +124,7 @@ fn is_built_in(name: &Text) -> bool
 }
 
 /// Whether a type name has no definition, if a file defines types of these names.
-pub fn is_undefined(types: &[Name], name: &Name) -> bool
+fn is_undefined(types: &[Name], name: &Name) -> bool
     ensures { result ≡ files.is_undefined types.now name.now }
 {
     !is_built_in(&name.text) && !is_named(types, &name.text)
@@ -133,7 +132,7 @@ pub fn is_undefined(types: &[Name], name: &Name) -> bool
 
 /// The fault of the type name, if it has no definition.
 pub fn undefined_name(types: &[Name], name: &Name) -> Option<TypeFault>
-    ensures told { Finds result (AnyUndefined types.now (name.now ∷ [])) }
+    ensures finds { FindsUndefined types.now (name.now ∷ []) result }
     ensures unknown { IfSome result (λ f. f ≡ fault.Unknown name.now.at) }
 {
     if is_undefined(types, name) {
@@ -145,11 +144,22 @@ pub fn undefined_name(types: &[Name], name: &Name) -> Option<TypeFault>
 
 /// Of the type names without a definition, among the types of declarations, the fault of the one of least offset.
 pub fn undefined(types: &[Name], list: &DeclList) -> Option<TypeFault>
-    ensures { Finds result (AnyUndefined types.now (files.types_used list.now.decls)) }
+    ensures { FindsUndefined types.now (files.types_used list.now.decls) result }
 {
     let mut fault = None;
     for decl in list.decls.as_slice() {
         fault = least(fault, undefined_name(types, &decl.ty));
+    }
+    fault
+}
+
+/// The same among the types of the fields of constructors.
+pub fn undefined_field(types: &[Name], cons: &[ConDef]) -> Option<TypeFault>
+    ensures { FindsUndefined types.now (files.types_of_fields cons.now) result }
+{
+    let mut fault = None;
+    for con in cons {
+        fault = least(fault, undefined(types, &con.fields));
     }
     fault
 }

@@ -17,7 +17,7 @@ use txs_syntax::{ConDef, DeclList, Def, Name};
 use txs_values::NoMemory;
 
 /// How many types, constructors, functions and constants stand before a place.
-#[derive(Clone, Copy, Debug)]
+#[derive(Clone, Copy)]
 struct Counts {
     types: usize,
     constructors: usize,

@@ -2,10 +2,10 @@ ghost use Rattle.std.specs.Prelude.{◌≡◌, IfOk, OnOk, cond, [], ◌∷◌, 
 ghost use Rattle.txs_values.specs.TableView.{cons_of, conses_of};
 ghost use Rattle.txs_types.specs.Files as files;
 
-use crate::declarations::{is_undefined, variables_of};
+use crate::declarations::{undefined_field, variables_of};
 use sqlite_items::Items;
 use std::alloc::Global;
-use txs_syntax::{ConDef, Decl, Def, Name};
+use txs_syntax::{ConDef, Def, Name};
 use txs_values::{ConsDef, ConsDefs, NoMemory, Text, TypeDef, TypeTable};
 
 fn constructor_of(alloc: Global, types: &[Name], con: &ConDef) -> Result<ConsDef, NoMemory>
@@ -51,29 +51,6 @@ pub fn table_of(alloc: Global, types: &[Name], defs: &[Def]) -> Result<TypeTable
     Ok(table)
 }
 
-fn any_in_decls(types: &[Name], decls: &[Decl]) -> bool
-    ensures { result ≡ files.any_undefined types.now (files.types_used decls.now) }
-{
-    for decl in decls {
-        if is_undefined(types, &decl.ty) {
-            return true;
-        }
-    }
-    false
-}
-
-/// Whether a field of these constructors is of a type without a definition.
-fn any_undefined(types: &[Name], cons: &[ConDef]) -> bool
-    ensures { result ≡ files.any_undefined types.now (files.types_of_fields cons.now) }
-{
-    for con in cons {
-        if any_in_decls(types, con.fields.decls.as_slice()) {
-            return true;
-        }
-    }
-    false
-}
-
 fn one_without_fields(alloc: Global) -> Result<ConsDefs, NoMemory>
     ensures { IfOk result (λ cs. conses_of cs ≡ record { name = []; fields = [] } ∷ []) }
 {
@@ -93,10 +70,9 @@ fn excused_constructors(
     ensures { IfOk result (λ cs. conses_of cs ≡ cond (files.any_undefined types.now (files.types_of_fields cons.now))
         (record { name = []; fields = [] } ∷ []) (files.constructors_of types.now cons.now)) }
 {
-    if any_undefined(types, cons) {
-        one_without_fields(alloc)
-    } else {
-        constructors_of(alloc, types, cons)
+    match undefined_field(types, cons) {
+        Some(_) => one_without_fields(alloc),
+        None => constructors_of(alloc, types, cons),
     }
 }
 

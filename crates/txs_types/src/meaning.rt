@@ -6,7 +6,7 @@ use sqlite_items::Items;
 use txs_values::{Text, Ty, Types};
 
 /// What a name of the file, or of the language, means. Types and constructors go by their numbers.
-#[derive(Clone, Copy, Debug)]
+#[derive(Clone, Copy)]
 pub enum Meaning {
     Truth(bool),
     Constant {
@@ -39,7 +39,7 @@ pub enum Meaning {
 }
 
 /// A name with what it means. A function and a constructor take arguments of these types.
-#[derive(Debug, Drop)]
+#[derive(Drop)]
 pub struct GlobalName {
     pub name: Text,
     pub means: Meaning,
@@ -47,7 +47,7 @@ pub struct GlobalName {
 }
 
 /// The names of a file and of the language, in order.
-#[derive(Debug, Drop)]
+#[derive(Drop)]
 pub struct GlobalNames {
     pub list: Items<GlobalName>,
 }

@@ -4,9 +4,9 @@ ghost use Rattle.txs_values.specs.Default.{default_if};
 ghost use Rattle.txs_values.specs.Choices.{extent_of, extents_of};
 ghost use Rattle.txs_types.specs.Files as files;
 ghost use Rattle.txs_types.specs.inner.Told.{Finds};
-ghost use Rattle.txs_types.specs.inner.Among.{Among, AmongDefs, IsTwice, AnyUndefined, TwiceIn, UnknownIn, BadDefault};
+ghost use Rattle.txs_types.specs.inner.Among.{Among, AmongDefs, IsTwice, TwiceIn, UnknownIn, BadDefault};
 
-use crate::declarations::{names_in, undefined, undefined_name};
+use crate::declarations::{names_in, undefined, undefined_field, undefined_name};
 use crate::definitions::defined_names;
 use crate::fault::TypeFault;
 use crate::global_names::{built_ins, texts_of};
@@ -14,7 +14,7 @@ use crate::least::least;
 use crate::names::repeated;
 use sqlite_items::Items;
 use std::alloc::Global;
-use txs_syntax::{ConDef, DeclList, Def, Name};
+use txs_syntax::{DeclList, Def, Name};
 use txs_values::{
     Extent, NoMemory, Text, TypeTable, VALUE_HEIGHT_LIMIT, VALUE_SIZE_LIMIT, default_extents,
 };
@@ -79,16 +79,6 @@ pub fn twice_parameter(alloc: Global, defs: &[Def]) -> Result<Option<TypeFault>,
         fault = least(fault, twice_in(alloc, def)?);
     }
     Ok(fault)
-}
-
-fn undefined_field(types: &[Name], cons: &[ConDef]) -> Option<TypeFault>
-    ensures { Finds result (AnyUndefined types.now (files.types_of_fields cons.now)) }
-{
-    let mut fault = None;
-    for con in cons {
-        fault = least(fault, undefined(types, &con.fields));
-    }
-    fault
 }
 
 fn unknown_in(types: &[Name], def: &Def) -> Option<TypeFault>

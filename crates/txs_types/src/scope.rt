@@ -15,7 +15,7 @@ use txs_terms::Expr;
 use txs_values::{FieldDef, FieldDefs, NoMemory, Text, Ty, Types, Value};
 
 /// What names mean at a place: how many types there are, the names of the file, and the variables, outermost first.
-#[derive(Debug, Drop)]
+#[derive(Drop)]
 pub struct Scope {
     pub types: u32,
     pub globals: GlobalNames,
@@ -24,7 +24,7 @@ pub struct Scope {
 }
 
 /// What is called by a name, the types of its arguments, and the types at which they are needed.
-#[derive(Debug, Drop)]
+#[derive(Drop)]
 pub struct Called {
     pub means: Meaning,
     pub takes: Types,

@@ -1,5 +1,5 @@
 -- The offences of type names and of defaults.
-use Rattle.std.proofs.Common.{◌≡◌, ◌⊎◌, inl, inr, ◌<◌, ◌+◌, ℕ, zero, suc, true, false, ap, sym, subst, ◌∙◌, List, [], ◌∷◌, ◌++◌, length, map, take, get_or, slice_get, option_map, Option, Some, None, refl, arith, true≢false}
+use Rattle.std.proofs.Common.{◌≡◌, ◌⊎◌, inl, inr, ◌<◌, ◌+◌, ℕ, zero, suc, Bool, true, false, ◌||◌, IfSome, ap, sym, subst, ◌∙◌, List, [], ◌∷◌, ◌++◌, length, map, take, get_or, slice_get, option_map, Option, Some, None, refl, arith, true≢false}
 use Rattle.txs_values.specs.Value.{Value, Table, named, size, height, value_size_limit, value_height_limit}
 use Rattle.txs_values.specs.Default.{default_if, ranked, rounds}
 use Rattle.txs_values.specs.Choices.{extent_of, extents_of}
@@ -7,15 +7,16 @@ use Rattle.txs_values.specs.declared.default.Extent.{Extent}
 use Rattle.txs_syntax.specs.declared.ast.Name.{Name}
 use Rattle.txs_syntax.specs.declared.file.ConDef.{ConDef}
 use Rattle.txs_types.specs.declared.fault.TypeFault.{TypeFault}
+use Rattle.txs_types.specs.declared.fault.TypeFault.TheVariants as fault
 use Rattle.txs_types.specs.Offends.{Offence, unknown, empty_type, big_type}
-use Rattle.txs_types.specs.Files.{is_undefined, types_used, types_of_fields, NotAfter, Decides}
+use Rattle.txs_types.specs.Files.{is_undefined, any_undefined, types_used, types_of_fields, NotAfter, Decides}
 use Rattle.txs_types.specs.inner.Told.{Finds, Least}
-use Rattle.txs_types.specs.inner.Among.{AnyUndefined, BadDefault, none, big}
+use Rattle.txs_types.specs.inner.Among.{AnyUndefined, FindsUndefined, BadDefault, none, big}
 use Rattle.txs_types.proofs.trees.Unique.{some_injective}
 use Rattle.txs_types.proofs.trees.NotBoth.{none≢some}
 use Rattle.txs_types.proofs.lists.Gathering.{taken_more}
 use Rattle.txs_types.proofs.judging.Told.{finds_same, finds_least}
-use Rattle.txs_types.proofs.lists.Collecting.{fields_append}
+use Rattle.txs_types.proofs.lists.Collecting.{fields_append, split_undefined}
 
 not_after_itself : (o : Offence) → NotAfter o o
 not_after_itself o = inr (refl, omega arith)
@@ -26,13 +27,13 @@ only_one : (n m : Name) (j : ℕ) → slice_get (n ∷ []) j ≡ Some m → n �
 only_one n m zero h = some_injective h
 only_one n m (suc j) h = absurd (none≢some h)
 
-pub undefined_stands : (types : List Name) (n : Name) → is_undefined types n ≡ true → Decides (AnyUndefined types (n ∷ [])) (unknown n.at)
+undefined_stands : (types : List Name) (n : Name) → is_undefined types n ≡ true → Decides (AnyUndefined types (n ∷ [])) (unknown n.at)
 undefined_stands types n h = record {
   stands = (0, n, refl, h, refl);
   first = λ p q. subst (NotAfter (unknown n.at)) (ap (λ (m : Name). unknown m.at) (only_one n q.1 q.0 q.2) ∙ sym q.4) (not_after_itself (unknown n.at));
 }
 
-pub undefined_none : (types : List Name) (n : Name) → is_undefined types n ≡ false → (o : Offence) → AnyUndefined types (n ∷ []) o → ⊥
+undefined_none : (types : List Name) (n : Name) → is_undefined types n ≡ false → (o : Offence) → AnyUndefined types (n ∷ []) o → ⊥
 undefined_none types n h o q = true≢false (sym (ap (is_undefined types) (only_one n q.1 q.0 q.2) ∙ q.3) ∙ h)
 
 any_join : (types xs ys : List Name) (o : Offence) → AnyUndefined types xs o ⊎ AnyUndefined types ys o → AnyUndefined types (xs ++ ys) o
@@ -59,14 +60,57 @@ more_right : (xs : List Name) → xs ≡ xs ++ []
 more_right [] = refl
 more_right (x ∷ xs) = ap (λ l. x ∷ l) (more_right xs)
 
+-- ---- a fault only if a type name has no definition
+
+pub is_told_undefined : (types : List Name) (n : Name) → is_undefined types n ≡ true → FindsUndefined types (n ∷ []) (Some (fault.Unknown n.at))
+is_told_undefined types n h = record { told = undefined_stands types n h; stands = ap (λ b. b || false) h }
+
+pub is_told_defined : (types : List Name) (n : Name) → is_undefined types n ≡ false → FindsUndefined types (n ∷ []) None
+is_told_defined types n h = record { told = undefined_none types n h; stands = tt }
+
+pub none_undefined_yet : (types : List Name) → FindsUndefined types [] None
+none_undefined_yet types = record { told = λ o p. none≢some p.2; stands = tt }
+
+or_right : (a b : Bool) → b ≡ true → (a || b) ≡ true
+or_right true b h = refl
+or_right false b h = h
+
+either_true : (f g r : Option TypeFault) (a b : Bool) → Least f g r → IfSome f (λ _. a ≡ true) → IfSome g (λ _. b ≡ true) → IfSome r (λ _. (a || b) ≡ true)
+either_true None None r a b l p q = subst (λ (r : Option TypeFault). IfSome r (λ _. (a || b) ≡ true)) (sym l) tt
+either_true None (Some g) r a b l p q = subst (λ (r : Option TypeFault). IfSome r (λ _. (a || b) ≡ true)) (sym l) (or_right a b q)
+either_true (Some f) None r a b l p q = subst (λ (r : Option TypeFault). IfSome r (λ _. (a || b) ≡ true)) (sym l) (ap (λ a. a || b) p)
+either_true (Some f) (Some g) r a b l p q = subst (λ (r : Option TypeFault). IfSome r (λ _. (a || b) ≡ true)) (sym l.1) (ap (λ a. a || b) p)
+
+pub undefined_least : (types xs ys : List Name) (f g r : Option TypeFault) → Least f g r → FindsUndefined types xs f → FindsUndefined types ys g
+    → FindsUndefined types (xs ++ ys) r
+undefined_least types xs ys f g r l p q = record {
+  told = any_least types xs ys f g r l p.told q.told;
+  stands = subst (λ b. IfSome r (λ _. b ≡ true)) (sym (split_undefined types xs ys)) (either_true f g r (any_undefined types xs) (any_undefined types ys) l p.stands q.stands);
+}
+
 pub fields_more : (types : List Name) (cs : List ConDef) (i : ℕ) (c : ConDef) (f g r : Option TypeFault) → i < length cs → c ≡ get_or cs i c
-    → Finds f (AnyUndefined types (types_of_fields (take i cs))) → Finds g (AnyUndefined types (types_used c.fields.decls)) → Least f g r
-    → Finds r (AnyUndefined types (types_of_fields (take (i + 1) cs)))
+    → FindsUndefined types (types_of_fields (take i cs)) f → FindsUndefined types (types_used c.fields.decls) g → Least f g r
+    → FindsUndefined types (types_of_fields (take (i + 1) cs)) r
 fields_more types cs i c f g r below is p q l =
-    subst (λ ds. Finds r (AnyUndefined types (types_of_fields ds))) (taken_more cs i c below is)
-    (subst (λ ns. Finds r (AnyUndefined types ns)) (sym (fields_append (take i cs) (c ∷ [])))
-    (subst (λ ns. Finds r (AnyUndefined types (types_of_fields (take i cs) ++ ns))) (more_right (types_used c.fields.decls))
-    (any_least types (types_of_fields (take i cs)) (types_used c.fields.decls) f g r l p q)))
+    subst (λ ds. FindsUndefined types (types_of_fields ds) r) (taken_more cs i c below is)
+    (subst (λ ns. FindsUndefined types ns r) (sym (fields_append (take i cs) (c ∷ [])))
+    (subst (λ ns. FindsUndefined types (types_of_fields (take i cs) ++ ns) r) (more_right (types_used c.fields.decls))
+    (undefined_least types (types_of_fields (take i cs)) (types_used c.fields.decls) f g r l p q)))
+
+no_undefined : (types ns : List Name) → ((o : Offence) → AnyUndefined types ns o → ⊥) → any_undefined types ns ≡ false
+no_undefined types [] clean = refl
+no_undefined types (n ∷ ns) clean = by (is_undefined types n) refl (no_undefined types ns (λ o p. clean o (suc p.0, p.1, p.2, p.3, p.4)))
+  where
+    by : (b : Bool) → is_undefined types n ≡ b → any_undefined types ns ≡ false → any_undefined types (n ∷ ns) ≡ false
+    by true e rest = absurd (clean (unknown n.at) (0, n, refl, e, refl))
+    by false e rest = ap (λ b. b || any_undefined types ns) e ∙ rest
+
+-- what a fault says, and what none does
+pub told_undefined : (types ns : List Name) (f : Option TypeFault) (g : TypeFault) → FindsUndefined types ns f → f ≡ Some g → any_undefined types ns ≡ true
+told_undefined types ns f g p e = subst (λ (f : Option TypeFault). IfSome f (λ _. any_undefined types ns ≡ true)) e p.stands
+
+pub told_defined : (types ns : List Name) (f : Option TypeFault) → FindsUndefined types ns f → f ≡ None → any_undefined types ns ≡ false
+told_defined types ns f p e = no_undefined types ns (subst (λ f. Finds f (AnyUndefined types ns)) e p.told)
 
 -- ---- defaults
 

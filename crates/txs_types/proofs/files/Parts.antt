@@ -31,9 +31,9 @@ names_found file types defs a b c d e f r same these p q s t l m n =
 pub outside_found : (file : File) (types : List Name) (defs : List Def) (table : Table) (a b r : Option TypeFault) → types ≡ type_names file.defs → defs ≡ file.defs → table ≡ excused types defs
     → Finds a (InNames file) → Finds b (Among (BadDefault table) types) → Least a b r → Finds r (OutsideBodies file)
 outside_found file types defs table a b r same these made p q l =
-    let whole : table ≡ excused (type_names file.defs) file.defs = made ∙ (ap (λ ts. excused ts defs) same ∙ ap (excused (type_names file.defs)) these) in
+    let same_table : table ≡ excused (type_names file.defs) file.defs = made ∙ (ap (λ ts. excused ts defs) same ∙ ap (excused (type_names file.defs)) these) in
     finds_least a b r (InNames file) (Among (BadDefault (excused (type_names file.defs) file.defs)) (type_names file.defs)) l p
-    (subst (λ t. Finds b (Among (BadDefault t) (type_names file.defs))) whole (subst (λ ts. Finds b (Among (BadDefault table) ts)) same q))
+    (subst (λ t. Finds b (Among (BadDefault t) (type_names file.defs))) same_table (subst (λ ts. Finds b (Among (BadDefault table) ts)) same q))
 
 -- ---- each offence of the file is in a part
 

@@ -52,7 +52,7 @@ tells_of scope want a (Err f) h = h
 pub clean_at : (at : ℕ) (scope : Scope) (want : Option Ty) (a : Ast) (e : Expr) (t : Ty) (o : Offence) → Elaborates scope want a e t → OffendsAt at scope want a o → ⊥
 clean_at at scope want a e t o d w = let m = moved (start a) w in not_both scope want a e t m.0 d (offends_of m.1)
 
--- ---- a whole
+-- ---- a tree that keeps the need
 
 pub told_mismatch : (at : ℕ) (P : Offence → Type 0) → P (mismatch at) → ((o : Offence) → P o → o ≡ mismatch at) → Told (fault.Mismatch at) P
 told_mismatch at P h only = record { stands = h; first = λ o p. subst (NotAfter (mismatch at)) (sym (only o p)) (inr (refl, omega arith)) }
@@ -79,7 +79,7 @@ not_other : (at : ℕ) (scope : Scope) (want : Option Ty) (a : Ast) (q o : Offen
 not_other at scope None a q o k w = k
 not_other at scope (Some t) a q o k w = clean_at at scope None a k.0 k.1 o k.3 w
 
--- the fault of the parts is that of the whole
+-- the fault of the parts is that of the tree
 pub fault_of_parts : (at : ℕ) (scope : Scope) (want : Option Ty) (a : Ast) (P : Offence → Type 0) (f : TypeFault) → Told f P
     → ((w : Option Ty) (o : Offence) → P o → OffendsAt at scope w a o) → ((p : Offence) → P p → (o : Offence) → Inside at scope want (out-Ast a) o → P o) → Told f (OffendsAt at scope want a)
 fault_of_parts at scope want a P f h into out = by f h

@@ -42,7 +42,7 @@ pub data Inside (at : ℕ) (scope : Scope) : Option Ty → Ast-F Ast → Offence
   i_body : {want : Option Ty} (l : ℕ) (x : Name) (a b : Ast) (o : Offence) (s : Ty) → Shows scope a s → Offends (inside scope x.text s) want b o
       → Inside at scope want (Ast-F.Let l x a b) o
 
--- the whole is of another type than the needed one
+-- the tree is of another type than the needed one
 abbrev pub Other : ℕ → Scope → Option Ty → Ast → Offence → Type 0
 Other at scope None a o = ⊥
 Other at scope (Some t) a o = (e : Expr) × (s : Ty) × KeepsNeed a × Elaborates scope None a e s × (Fits scope t s → ⊥) × (o ≡ mismatch at)
@@ -72,7 +72,7 @@ split (else_like_then {s = s} {i = i} p a b {o = o} h w) = inl (in_form (tree.ou
 split (bound_value {l = l} {x = x} a b {o = o} w) = inl (in_form (tree.outs-Let l x a b) (i_value l x a b o w))
 split (body {l = l} {x = x} a b {o = o} {s = s} h w) = inl (in_form (tree.outs-Let l x a b) (i_body l x a b o s h w))
 
--- a whole that offends where a type is needed offends where none is, or is of another type
+-- what offends in a tree that keeps the need, needed at a type, offends if none is needed, or the tree is of another type
 pub at_none : {at : ℕ} {scope : Scope} {want : Option Ty} {a : Ast} {o : Offence} → OffendsAt at scope want a o → KeepsNeed a → OffendsAt at scope None a o ⊎ (o ≡ mismatch at)
 at_none (unknown_name h) w = inl (unknown_name h)
 at_none (unknown_call args h) w = inl (unknown_call args h)

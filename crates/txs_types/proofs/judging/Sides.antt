@@ -71,44 +71,44 @@ some_offence (fault.BigType at) P d = inr (_, d.stands)
 some_offence fault.NoMemory P d = inl refl
 
 -- what offends in the other, which stands in this scope
-abbrev Behind : Scope → Ast → (Ty → Offence → Type 0) → Offence → Type 0
-Behind scope a Q o = (s : Ty) × Shows scope a s × Q s o
+abbrev After : Scope → Ast → (Ty → Offence → Type 0) → Offence → Type 0
+After scope a Q o = (s : Ty) × Shows scope a s × Q s o
 
-behind_it : (scope : Scope) (a : Ast) (Q : Ty → Offence → Type 0) (t : Ty) → Shows scope a t → ((s : Ty) → Shows scope a s → s ≡ t)
-    → ((o : Offence) → Q t o → Behind scope a Q o) × ((o : Offence) → Behind scope a Q o → Q t o)
-behind_it scope a Q t h only = (λ o q. (t, h, q), λ o b. subst (λ s. Q s o) (only b.0 b.1) b.2)
+after_it : (scope : Scope) (a : Ast) (Q : Ty → Offence → Type 0) (t : Ty) → Shows scope a t → ((s : Ty) → Shows scope a s → s ≡ t)
+    → ((o : Offence) → Q t o → After scope a Q o) × ((o : Offence) → After scope a Q o → Q t o)
+after_it scope a Q t h only = (λ o q. (t, h, q), λ o b. subst (λ s. Q s o) (only b.0 b.1) b.2)
 
 -- a tree by itself, and another, of which something is known at the type that the first shows
-pub tells_behind : (scope : Scope) (a : Ast) (G : Ty → Typed → Type 0) (Q : Ty → Offence → Type 0) (x y : Result Typed TypeFault) (r : Result (Typed × Typed) TypeFault)
+pub tells_after : (scope : Scope) (a : Ast) (G : Ty → Typed → Type 0) (Q : Ty → Offence → Type 0) (x y : Result Typed TypeFault) (r : Result (Typed × Typed) TypeFault)
     → Judges scope None a x → Tells (G (shown scope x)) (Q (shown scope x)) y → Joined x y r
-    → Tells (λ (p : Typed × Typed). Means scope None a p.0 × G (ty_of p.0.ty) p.1) (Either (Offends scope None a) (Behind scope a Q)) r
-tells_behind scope a G Q (Ok t) (Ok u) r h k j =
-    let b = behind_it scope a Q (ty_of t.ty) (as_typed h.0) (λ s p. shows_it scope a t s h p) in
-    subst (Tells (λ (p : Typed × Typed). Means scope None a p.0 × G (ty_of p.0.ty) p.1) (Either (Offends scope None a) (Behind scope a Q))) (sym j)
-    ((h, k.0), none_of_both (Offends scope None a) (Behind scope a Q) (no_offence scope None a t h) (λ o q. k.1 o (b.1 o q)))
-tells_behind scope a G Q (Ok t) (Err g) r h k j =
-    let b = behind_it scope a Q (ty_of t.ty) (as_typed h.0) (λ s p. shows_it scope a t s h p) in
-    subst (Tells (λ (p : Typed × Typed). Means scope None a p.0 × G (ty_of p.0.ty) p.1) (Either (Offends scope None a) (Behind scope a Q))) (sym j)
-    (told_right g (Offends scope None a) (Behind scope a Q) (no_offence scope None a t h) (told_same g (Q (ty_of t.ty)) (Behind scope a Q) b.0 b.1 k))
-tells_behind scope a G Q (Err f) (Ok u) r h k j =
-    subst (Tells (λ (p : Typed × Typed). Means scope None a p.0 × G (ty_of p.0.ty) p.1) (Either (Offends scope None a) (Behind scope a Q))) (sym j)
+    → Tells (λ (p : Typed × Typed). Means scope None a p.0 × G (ty_of p.0.ty) p.1) (Either (Offends scope None a) (After scope a Q)) r
+tells_after scope a G Q (Ok t) (Ok u) r h k j =
+    let b = after_it scope a Q (ty_of t.ty) (as_typed h.0) (λ s p. shows_it scope a t s h p) in
+    subst (Tells (λ (p : Typed × Typed). Means scope None a p.0 × G (ty_of p.0.ty) p.1) (Either (Offends scope None a) (After scope a Q))) (sym j)
+    ((h, k.0), none_of_both (Offends scope None a) (After scope a Q) (no_offence scope None a t h) (λ o q. k.1 o (b.1 o q)))
+tells_after scope a G Q (Ok t) (Err g) r h k j =
+    let b = after_it scope a Q (ty_of t.ty) (as_typed h.0) (λ s p. shows_it scope a t s h p) in
+    subst (Tells (λ (p : Typed × Typed). Means scope None a p.0 × G (ty_of p.0.ty) p.1) (Either (Offends scope None a) (After scope a Q))) (sym j)
+    (told_right g (Offends scope None a) (After scope a Q) (no_offence scope None a t h) (told_same g (Q (ty_of t.ty)) (After scope a Q) b.0 b.1 k))
+tells_after scope a G Q (Err f) (Ok u) r h k j =
+    subst (Tells (λ (p : Typed × Typed). Means scope None a p.0 × G (ty_of p.0.ty) p.1) (Either (Offends scope None a) (After scope a Q))) (sym j)
     (elim (some_offence f (Offends scope None a) h) [
-      | inl e ↦ subst (λ f. Told f (Either (Offends scope None a) (Behind scope a Q))) (sym e) tt
-      | inr w ↦ (let b = behind_it scope a Q (anything scope) (as_anything w.1) (λ s p. shows_any scope a w.0 s w.1 p) in
-          told_left f (Offends scope None a) (Behind scope a Q) h (λ o q. k.1 o (b.1 o q)))
+      | inl e ↦ subst (λ f. Told f (Either (Offends scope None a) (After scope a Q))) (sym e) tt
+      | inr w ↦ (let b = after_it scope a Q (anything scope) (as_anything w.1) (λ s p. shows_any scope a w.0 s w.1 p) in
+          told_left f (Offends scope None a) (After scope a Q) h (λ o q. k.1 o (b.1 o q)))
     ])
-tells_behind scope a G Q (Err f) (Err g) r h k j =
-    subst (Tells (λ (p : Typed × Typed). Means scope None a p.0 × G (ty_of p.0.ty) p.1) (Either (Offends scope None a) (Behind scope a Q))) (sym j.1)
+tells_after scope a G Q (Err f) (Err g) r h k j =
+    subst (Tells (λ (p : Typed × Typed). Means scope None a p.0 × G (ty_of p.0.ty) p.1) (Either (Offends scope None a) (After scope a Q))) (sym j.1)
     (elim (some_offence f (Offends scope None a) h) [
-      | inl e ↦ subst (λ f. Told f (Either (Offends scope None a) (Behind scope a Q))) (sym (memory_lesser (subst (λ f. Lesser f g j.0) e j.2))) tt
-      | inr w ↦ (let b = behind_it scope a Q (anything scope) (as_anything w.1) (λ s p. shows_any scope a w.0 s w.1 p) in
-          told_either f g j.0 (Offends scope None a) (Behind scope a Q) h (told_same g (Q (anything scope)) (Behind scope a Q) b.0 b.1 k) j.2)
+      | inl e ↦ subst (λ f. Told f (Either (Offends scope None a) (After scope a Q))) (sym (memory_lesser (subst (λ f. Lesser f g j.0) e j.2))) tt
+      | inr w ↦ (let b = after_it scope a Q (anything scope) (as_anything w.1) (λ s p. shows_any scope a w.0 s w.1 p) in
+          told_either f g j.0 (Offends scope None a) (After scope a Q) h (told_same g (Q (anything scope)) (After scope a Q) b.0 b.1 k) j.2)
     ])
 
 pub tells_in_order : (scope : Scope) (a b : Ast) (x y : Result Typed TypeFault) (r : Result (Typed × Typed) TypeFault)
     → Judges scope None a x → Judges scope (Some (shown scope x)) b y → Joined x y r → Tells (InOrder scope a b) (OffendInOrder scope a b) r
 tells_in_order scope a b x y r h k j =
-    tells_behind scope a (λ s. Means scope (Some s) b) (λ s. Offends scope (Some s) b) x y r h (tells_of scope (Some (shown scope x)) b y k) j
+    tells_after scope a (λ s. Means scope (Some s) b) (λ s. Offends scope (Some s) b) x y r h (tells_of scope (Some (shown scope x)) b y k) j
 
 -- ---- nodes
 
@@ -331,7 +331,7 @@ abbrev BodyOffends : Scope → Option Ty → Name → Ast → Ty → Offence →
 BodyOffends scope want x b s = Offends (inside scope x.text s) want b
 
 let_inside : {at : ℕ} {scope : Scope} {want : Option Ty} {l : ℕ} {x : Name} {a b : Ast} {o : Offence} → Inside at scope want (Ast-F.Let l x a b) o
-    → Either (Offends scope None a) (Behind scope a (BodyOffends scope want x b)) o
+    → Either (Offends scope None a) (After scope a (BodyOffends scope want x b)) o
 let_inside (i_value l x a b o w) = inl w
 let_inside (i_body l x a b o s h w) = inr (s, h, w)
 
@@ -343,9 +343,9 @@ pub let_node : (at l : ℕ) (scope : Scope) (want : Option Ty) (x : Name) (a b :
     → MadeTyped (λ (p : Typed × Typed). (let_in x.text (expr_of p.0.expr) (expr_of p.1.expr), ty_of p.1.ty)) found r → JudgesAt at scope want (tree.Let l x a b) r
 let_node at l scope want x a b v w found r h k j m =
     part_node at scope want (tree.Let l x a b) (λ p. Means scope None a p.0 × Means (inside scope x.text (ty_of p.0.ty)) want b p.1)
-    (Either (Offends scope None a) (Behind scope a (BodyOffends scope want x b)))
+    (Either (Offends scope None a) (After scope a (BodyOffends scope want x b)))
     (λ (p : Typed × Typed). (let_in x.text (expr_of p.0.expr) (expr_of p.1.expr), ty_of p.1.ty)) found r (not_let l x a b)
-    (tells_behind scope a (λ s. Means (inside scope x.text s) want b) (BodyOffends scope want x b) v w found h (tells_of (inside scope x.text (shown scope v)) want b w k) j) m
+    (tells_after scope a (λ s. Means (inside scope x.text s) want b) (BodyOffends scope want x b) v w found h (tells_of (inside scope x.text (shown scope v)) want b w k) j) m
     (λ p g. (bound a b g.0.0 g.1.0, let_ints l x a b g.0.1 g.1.1))
     (λ o q. elim q [ inl z ↦ bound_value a b z | inr z ↦ body a b z.1 z.2 ])
     (λ o q. let_inside (subst (λ n. Inside at scope want n o) (tree.outs-Let l x a b) q))

@@ -15,15 +15,15 @@ split_type_names (def.TypeDef x cs) ds = refl
 split_type_names (def.FuncDef x ps r e) ds = refl
 split_type_names (def.ConstDef x t e) ds = refl
 
--- what is behind nothing
-behind_nothing : {A : Type 0} (xs ys : List A) → xs ++ ys ≡ (xs ++ []) ++ ys
-behind_nothing xs ys = ap (λ l. l ++ ys) (sym (append-nil xs))
+-- what stands after nothing
+after_nothing : {A : Type 0} (xs ys : List A) → xs ++ ys ≡ (xs ++ []) ++ ys
+after_nothing xs ys = ap (λ l. l ++ ys) (sym (append-nil xs))
 
 pub split_constructor_names : (c : ConDef) (cs : List ConDef) → constructor_names (c ∷ cs) ≡ constructor_names (c ∷ []) ++ constructor_names cs
-split_constructor_names c cs = ap (λ l. c.name ∷ record { at = c.name.at; text = test_name c.name.text } ∷ l) (behind_nothing (names_in c.fields.decls) (constructor_names cs))
+split_constructor_names c cs = ap (λ l. c.name ∷ record { at = c.name.at; text = test_name c.name.text } ∷ l) (after_nothing (names_in c.fields.decls) (constructor_names cs))
 
 pub split_defined_names : (d : Def) (ds : List Def) → defined_names (d ∷ ds) ≡ defined_names (d ∷ []) ++ defined_names ds
-split_defined_names (def.TypeDef x cs) ds = behind_nothing (constructor_names cs) (defined_names ds)
+split_defined_names (def.TypeDef x cs) ds = after_nothing (constructor_names cs) (defined_names ds)
 split_defined_names (def.FuncDef x ps r e) ds = refl
 split_defined_names (def.ConstDef x t e) ds = refl
 
@@ -54,6 +54,6 @@ fields_append [] ds = refl
 fields_append (c ∷ cs) ds = ap (λ l. types_used c.fields.decls ++ l) (fields_append cs ds) ∙ sym (append_assoc (types_used c.fields.decls) (types_of_fields cs) (types_of_fields ds))
 
 pub split_globals : (types : List Name) (c : Counts) (d : Def) (ds : List Def) → globals_from types c (d ∷ ds) ≡ globals_from types c (d ∷ []) ++ globals_from types (counts_after c d) ds
-split_globals types c (def.TypeDef x cs) ds = behind_nothing (constructor_globals c.types c.constructors (constructors_of types cs)) (globals_from types (counts_after c (def.TypeDef x cs)) ds)
+split_globals types c (def.TypeDef x cs) ds = after_nothing (constructor_globals c.types c.constructors (constructors_of types cs)) (globals_from types (counts_after c (def.TypeDef x cs)) ds)
 split_globals types c (def.FuncDef x ps r e) ds = refl
 split_globals types c (def.ConstDef x t e) ds = refl

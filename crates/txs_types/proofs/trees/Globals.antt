@@ -91,30 +91,30 @@ good_table d ok k c (t ∷ ts) n h =
 
 -- ---- functions and constants
 
-pub get_behind : {A : Type 0} (before : List A) (a : A) (after : List A) → slice_get (before ++ a ∷ after) (length before) ≡ Some a
-get_behind [] a after = refl
-get_behind (b ∷ before) a after = get_behind before a after
+pub get_after : {A : Type 0} (before : List A) (a : A) (after : List A) → slice_get (before ++ a ∷ after) (length before) ≡ Some a
+get_after [] a after = refl
+get_after (b ∷ before) a after = get_after before a after
 
-length_behind : {A : Type 0} (before : List A) (a : A) → length (before ++ a ∷ []) ≡ suc (length before)
-length_behind [] a = refl
-length_behind (b ∷ before) a = ap suc (length_behind before a)
+length_after : {A : Type 0} (before : List A) (a : A) → length (before ++ a ∷ []) ≡ suc (length before)
+length_after [] a = refl
+length_after (b ∷ before) a = ap suc (length_after before a)
 
 good_functions : (d : Definitions) (i : ℕ) (before fs : List Function) → HaveHeaders d.table fs → d.functions ≡ before ++ fs → i ≡ length before → AreGood d (function_globals i fs)
 good_functions d i before [] ok e n = tt
 good_functions d i before (f ∷ fs) ok e n =
-    let found : slice_get d.functions i ≡ Some f = ap (λ l. slice_get l i) e ∙ (ap (slice_get (before ++ f ∷ fs)) n ∙ get_behind before f fs) in
+    let found : slice_get d.functions i ≡ Some f = ap (λ l. slice_get l i) e ∙ (ap (slice_get (before ++ f ∷ fs)) n ∙ get_after before f fs) in
     let make : (Function → Signature) = λ f. record { takes = f.takes; gives = f.gives } in (
       (slice_get-map make d.functions i ∙ ap (option_map make) found, ok.0.0, ok.0.1),
-      good_functions d (suc i) (before ++ f ∷ []) fs ok.1 (e ∙ sym (append_assoc before (f ∷ []) fs)) (ap suc n ∙ sym (length_behind before f)),
+      good_functions d (suc i) (before ++ f ∷ []) fs ok.1 (e ∙ sym (append_assoc before (f ∷ []) fs)) (ap suc n ∙ sym (length_after before f)),
     )
 
 good_constants : (d : Definitions) (i : ℕ) (before ks : List Constant) → HaveConstantTypes d.table ks → d.constants ≡ before ++ ks → i ≡ length before → AreGood d (constant_globals i ks)
 good_constants d i before [] ok e n = tt
 good_constants d i before (k ∷ ks) ok e n =
-    let found : slice_get d.constants i ≡ Some k = ap (λ l. slice_get l i) e ∙ (ap (slice_get (before ++ k ∷ ks)) n ∙ get_behind before k ks) in
+    let found : slice_get d.constants i ≡ Some k = ap (λ l. slice_get l i) e ∙ (ap (slice_get (before ++ k ∷ ks)) n ∙ get_after before k ks) in
     let make : (Constant → Ty) = λ k. k.ty in (
       (slice_get-map make d.constants i ∙ ap (option_map make) found, ok.0),
-      good_constants d (suc i) (before ++ k ∷ []) ks ok.1 (e ∙ sym (append_assoc before (k ∷ []) ks)) (ap suc n ∙ sym (length_behind before k)),
+      good_constants d (suc i) (before ++ k ∷ []) ks ok.1 (e ∙ sym (append_assoc before (k ∷ []) ks)) (ap suc n ∙ sym (length_after before k)),
     )
 
 pub good_globals : (d : Definitions) (variables : List Variable) → HasTypes d → AreGood d (scope_over d variables).globals

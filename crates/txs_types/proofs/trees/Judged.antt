@@ -94,7 +94,7 @@ Judged a = (at : ℕ) (scope : Scope) (want : Option Ty) → Result at scope wan
 verdict : (a : Ast) → Judged a → (scope : Scope) (want : Option Ty) → Verdict scope want a
 verdict a j scope want = elim (j (start a) scope want) [ inl d ↦ inl d | inr w ↦ inr (w.0, stands refl w.1) ]
 
--- a whole of this type
+-- a tree that keeps the need, of this type
 finish : (at : ℕ) (scope : Scope) (want : Option Ty) (a : Ast) (e : Expr) (t : Ty) → KeepsNeed a
     → ((w : Option Ty) → Suits scope w t → Elaborates scope w a e t) → Result at scope want a
 finish at scope None a e t w mk = inl (e, t, mk None tt)

@@ -21,7 +21,7 @@ is_there (Some a) = true
 pub none≢some : {A : Type 0} {a : A} → None ≡ Some a → ⊥
 none≢some p = true≢false (sym (ap is_there p))
 
--- what offends in a tree, by its outermost form, besides the type of the whole
+-- what offends in a tree, by its outermost form, besides its type
 data Offending (scope : Scope) : Option Ty → Ast-F Ast → Type 0 where
   f_name : {want : Option Ty} (x : Name) → meaning scope x.text ≡ None → Offending scope want (Ast-F.Name x)
   f_call : {want : Option Ty} (x : Name) (args : List Ast) → called scope x.text ≡ None → Offending scope want (Ast-F.Call x args)
@@ -52,7 +52,7 @@ data Offending (scope : Scope) : Option Ty → Ast-F Ast → Type 0 where
 off_form : {scope : Scope} {want : Option Ty} {l m : Ast-F Ast} → m ≡ l → Offending scope want l → Offending scope want m
 off_form {scope = scope} {want = want} p d = subst (Offending scope want) (sym p) d
 
--- the whole is of another type than the needed one
+-- the tree is of another type than the needed one
 abbrev Other : Scope → Option Ty → Ast → Type 0
 Other scope None a = ⊥
 Other scope (Some t) a = (e : Expr) × (s : Ty) × KeepsNeed a × Elaborates scope None a e s × (Fits scope t s → ⊥)
@@ -79,7 +79,7 @@ split (else_like_then {s = s} {i = at} p a b {o = o} h w) = inl (off_form (tree.
 split (bound_value {l = at} {x = x} a b {o = o} w) = inl (off_form (tree.outs-Let at x a b) (f_value at x a b o w))
 split (body {l = at} {x = x} a b {o = o} {s = s} h w) = inl (off_form (tree.outs-Let at x a b) (f_body at x a b o s h w))
 
--- ---- the type of a whole
+-- ---- the type of a tree that keeps the need
 
 made_type : {want : Option Ty} {m : Meaning} {es : List Expr} {e f : Expr} {s t : Ty} → Makes None m es e s → Makes want m es f t → s ≡ t
 made_type (function_made w g ts t es) (function_made w' g' ts' t' es') = refl
@@ -109,7 +109,7 @@ if_is_part at p a b w = true≢false (sym w ∙ fold_if Bool keeps_need_step at 
 let_is_part : (at : ℕ) (x : Name) (a b : Ast) → KeepsNeed (tree.Let at x a b) → ⊥
 let_is_part at x a b w = true≢false (sym w ∙ fold_let Bool keeps_need_step at x a b)
 
--- a whole has the same type, whether one is needed or not
+-- it is the same, whether one is needed or not
 same_type : {scope : Scope} {want : Option Ty} {a : Ast} {e f : Expr} {s t : Ty} → Elaborates scope None a e s → KeepsNeed a → Elaborates scope want a f t → s ≡ t
 same_type (number {at = at} {n = n} p) w z = (of_number (at_form (sym (tree.outs-Number at n)) (layer z))).1
 same_type (quoted {at = at} {s = s} p) w z = (of_quoted (at_form (sym (tree.outs-Text at s)) (layer z))).1

@@ -57,9 +57,9 @@ at_need d scope e s t p = subst (IsOf d scope e) (sym p.1) p.0.0
 
 -- ---- scopes
 
-types_behind : (vs : List Variable) (v : Variable) → field_types (vs ++ v ∷ []) ≡ field_types vs ++ v.ty ∷ []
-types_behind [] v = refl
-types_behind (w ∷ vs) v = ap (λ ts. w.ty ∷ ts) (types_behind vs v)
+types_after : (vs : List Variable) (v : Variable) → field_types (vs ++ v ∷ []) ≡ field_types vs ++ v.ty ∷ []
+types_after [] v = refl
+types_after (w ∷ vs) v = ap (λ ts. w.ty ∷ ts) (types_after vs v)
 
 types_with : (table : Table) (vs : List Variable) (v : Variable) → AreTypes table (field_types vs) → IsType table v.ty → AreTypes table (field_types (vs ++ v ∷ []))
 types_with table [] v p h = (h, tt)
@@ -302,7 +302,7 @@ mutual
       let value = typed d d1 ok tt i.0 in
       let rest = typed d d2 (sound_inside d scope x.text s ok value.0.1) need i.1 in (
         (
-          let_of value.0.0 (subst (λ ts. Of d.table (signatures_of d) (field_types scope.slots) ts f t) (types_behind scope.locals (record { name = x.text; ty = s })) rest.0.0),
+          let_of value.0.0 (subst (λ ts. Of d.table (signatures_of d) (field_types scope.slots) ts f t) (types_after scope.locals (record { name = x.text; ty = s })) rest.0.0),
           rest.0.1,
         ),
         rest.1,

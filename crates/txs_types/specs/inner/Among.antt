@@ -1,5 +1,5 @@
 -- The offences of a file by the parts that they stand in.
-use Rattle.std.specs.Prelude.{◌≡◌, ◌⊎◌, ◌<◌, ℕ, true, List, [], ◌∷◌, ◌++◌, length, map, Some, None, slice_get}
+use Rattle.std.specs.Prelude.{◌≡◌, ◌⊎◌, ◌<◌, ℕ, true, List, [], ◌∷◌, ◌++◌, length, map, Option, Some, None, IfSome, slice_get}
 use Rattle.txs_values.specs.Value.{Value, Table, named, size, height, value_size_limit, value_height_limit}
 use Rattle.txs_values.specs.TableView.{field_of}
 use Rattle.txs_values.specs.Default.{default_if}
@@ -7,12 +7,14 @@ use Rattle.txs_syntax.specs.declared.ast.Name.{Name}
 use Rattle.txs_syntax.specs.declared.file.File.{File}
 use Rattle.txs_syntax.specs.declared.file.Def.{Def}
 use Rattle.txs_syntax.specs.declared.file.Def.TheVariants as def
+use Rattle.txs_types.specs.declared.fault.TypeFault.{TypeFault}
 use Rattle.txs_types.specs.declared.scope.Scope as rust_scope
 use Rattle.txs_types.specs.Names.{built_ins}
 use Rattle.txs_types.specs.Elaborates.{HasInts}
 use Rattle.txs_types.specs.Offends.{Offence, twice, unknown, empty_type, big_type, Offends}
-use Rattle.txs_types.specs.Files.{type_names, type_of, variables_of, types_named, names_in, defined_names, is_undefined, built_in_types, built_in_names, excused, scope_in, globals_in, Repeats}
+use Rattle.txs_types.specs.Files.{type_names, type_of, variables_of, types_named, names_in, defined_names, is_undefined, any_undefined, built_in_types, built_in_names, excused, scope_in, globals_in, Repeats}
 use Rattle.txs_types.specs.inner.View.{globals_of}
+use Rattle.txs_types.specs.inner.Told.{Finds}
 
 -- the offence stands at one of these, each with its number
 pub record Among {A : Type 0} (At : ℕ → A → Offence → Type 0) (xs : List A) (o : Offence) : Type 0 where
@@ -32,6 +34,11 @@ IsTwice xs ns o = (at : ℕ) × (o ≡ twice at) × Repeats xs ns at
 -- one of these type names has no definition
 abbrev pub AnyUndefined : List Name → List Name → Offence → Type 0
 AnyUndefined types ns o = (j : ℕ) × (n : Name) × (slice_get ns j ≡ Some n) × (is_undefined types n ≡ true) × (o ≡ unknown n.at)
+
+-- the fault tells which of these type names has no definition, and there is one only if a name has none
+pub record FindsUndefined (types ns : List Name) (f : Option TypeFault) : Type 0 where
+  pub told : Finds f (AnyUndefined types ns)
+  pub stands : IfSome f (λ _. any_undefined types ns ≡ true)
 
 -- a parameter of the function is there already
 abbrev pub TwiceIn : Def → Offence → Type 0

@@ -10,13 +10,13 @@ use Rattle.txs_types.proofs.offences.unknown_in.Goals as goal
 pub returns-in-TypeDef : goal.returns-in-TypeDef
 returns-in-TypeDef c =
     subst (λ (d : Def). Finds c.undefined_field.result (UnknownIn c.args.types.now d)) (sym c.in-TypeDef.is)
-    (subst (λ cs. Finds c.undefined_field.result (UnknownIn c.args.types.now (def.TypeDef c.in-TypeDef.name cs))) c.as_slice.ensures c.undefined_field.ensures)
+    (subst (λ cs. Finds c.undefined_field.result (UnknownIn c.args.types.now (def.TypeDef c.in-TypeDef.name cs))) c.as_slice.ensures c.undefined_field.ensures.told)
 
 pub returns-in-FuncDef : goal.returns-in-FuncDef
 returns-in-FuncDef c =
     subst (λ (d : Def). Finds c.least.result (UnknownIn c.args.types.now d)) (sym c.in-FuncDef.is)
     (any_least c.args.types.now (types_used c.in-FuncDef.params.decls) (c.in-FuncDef.result ∷ []) c.undefined.result c.undefined_name.result c.least.result
-    c.least.ensures c.undefined.ensures c.undefined_name.ensures.told)
+    c.least.ensures c.undefined.ensures.told c.undefined_name.ensures.finds.told)
 
 pub returns-in-ConstDef : goal.returns-in-ConstDef
-returns-in-ConstDef c = subst (λ (d : Def). Finds c.undefined_name-in-ConstDef.result (UnknownIn c.args.types.now d)) (sym c.in-ConstDef.is) c.undefined_name-in-ConstDef.ensures.told
+returns-in-ConstDef c = subst (λ (d : Def). Finds c.undefined_name-in-ConstDef.result (UnknownIn c.args.types.now d)) (sym c.in-ConstDef.is) c.undefined_name-in-ConstDef.ensures.finds.told

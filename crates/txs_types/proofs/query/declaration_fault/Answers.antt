@@ -10,4 +10,4 @@ returns c =
     let types = c.args.types.now in
     let decls = c.args.decls.now.decls in
     finds_least c.in_ok-twice.twice c.undefined.result c.least.result (IsTwice [] (names_in decls)) (AnyUndefined types (types_used decls)) c.least.ensures
-    (subst (λ ns. Finds c.in_ok-twice.twice (IsTwice [] ns)) (c.as_slice.ensures ∙ c.in_ok-names.ensures) c.in_ok-twice.ensures) c.undefined.ensures
+    (subst (λ ns. Finds c.in_ok-twice.twice (IsTwice [] ns)) (c.as_slice.ensures ∙ c.in_ok-names.ensures) c.in_ok-twice.ensures) c.undefined.ensures.told

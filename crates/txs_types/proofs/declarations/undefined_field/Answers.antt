@@ -2,14 +2,12 @@ use Rattle.std.proofs.Common.{subst, List}
 use Rattle.std.proofs.lemmas.List.{take_all}
 use Rattle.txs_syntax.specs.declared.file.ConDef.{ConDef}
 use Rattle.txs_types.specs.Files.{types_of_fields}
-use Rattle.txs_types.specs.inner.Told.{Finds}
-use Rattle.txs_types.specs.inner.Among.{AnyUndefined}
-use Rattle.txs_types.proofs.trees.NotBoth.{none≢some}
-use Rattle.txs_types.proofs.files.Offending.{fields_more}
-use Rattle.txs_types.proofs.offences.undefined_field.Goals as goal
+use Rattle.txs_types.specs.inner.Among.{FindsUndefined}
+use Rattle.txs_types.proofs.files.Offending.{none_undefined_yet, fields_more}
+use Rattle.txs_types.proofs.declarations.undefined_field.Goals as goal
 
 pub loop-con-init : goal.loop-con-init
-loop-con-init c = λ o p. none≢some p.2
+loop-con-init c = none_undefined_yet c.args.types.now
 
 pub loop-con-preserved : goal.loop-con-preserved
 loop-con-preserved c =
@@ -18,5 +16,5 @@ loop-con-preserved c =
 
 pub returns : goal.returns
 returns c =
-    subst (λ (cs : List ConDef). Finds c.loop-con.fault (AnyUndefined c.args.types.now (types_of_fields cs)))
+    subst (λ (cs : List ConDef). FindsUndefined c.args.types.now (types_of_fields cs) c.loop-con.fault)
     (take_all c.loop-con.con-index c.args.cons.now c.loop-con-test.false) c.loop-con.invariant

@@ -1,9 +1,0 @@
-use Rattle.std.proofs.Common.{take}
-use Rattle.txs_types.specs.Files.{types_of_fields}
-use Rattle.txs_types.specs.inner.Told.{Finds}
-use Rattle.txs_types.specs.inner.Among.{AnyUndefined}
-use Rattle.txs_types.proofs.offences.undefined_field.Given as goal
-
--- the fault so far
-abbrev pub invariant-loop-con : goal.invariant-loop-con
-invariant-loop-con l = Finds l.fault (AnyUndefined l.types (types_of_fields (take l.con-index l.cons)))
