@@ -8,7 +8,7 @@ mod quoted;
 mod reader;
 mod written;
 
-pub use entry::{Entry, Entries};
+pub use entry::{Entries, Entry};
 pub use fault::CaseFault;
 pub use numbers::{number_of, numbers_of, split_word};
 pub use quoted::{quoted_texts, quoted_words};
