@@ -4,7 +4,7 @@
 use std::process::ExitCode;
 use std::rt::Env;
 use std::{env, io};
-use txs_outside::{DiskFiles, ReaderSource, TcpSut, WriterSink};
+use txs_adapters::{DiskFiles, ReaderSource, TcpSut, WriterSink};
 use txs_top::top;
 
 /// The status where memory runs out before the session begins.

@@ -6,4 +6,3 @@ pub mod Calls
 pub mod Held
 pub mod Script
 pub mod Memory
-pub mod Edge

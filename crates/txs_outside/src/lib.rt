@@ -1,8 +1,7 @@
-//! The outside: sources, sinks, files and systems under test, in memory and over the operating system.
+//! The outside: sources, sinks, files and systems under test, and those in memory.
 #![tactic(auto)]
 
 mod call_list;
-mod disk_files;
 mod ends;
 mod failing;
 mod files;
@@ -12,8 +11,6 @@ mod mem_source;
 mod mem_sut;
 mod numbers;
 mod playing;
-mod reader_source;
-mod retrying;
 mod sink;
 mod source;
 mod sure_files;
@@ -21,10 +18,7 @@ mod sure_sink;
 mod sure_source;
 mod sure_sut;
 mod sut;
-mod tcp_sut;
-mod writer_sink;
 
-pub use disk_files::DiskFiles;
 pub use ends::{End, EndList, Ends};
 pub use files::{Files, FilesFault};
 pub use mem_files::MemFiles;
@@ -33,16 +27,13 @@ pub use mem_source::MemSource;
 pub use mem_sut::MemSut;
 pub use numbers::Numbers;
 pub use playing::{Script, ScriptEntry};
-pub use reader_source::ReaderSource;
 pub use sink::{Failed, Sink};
 pub use source::{Got, Source};
-pub use sure_files::{NamedFile, NamedFiles, SureFiles};
+pub use sure_files::{FILE_LIMIT, NamedFile, NamedFiles, SureFiles};
 pub use sure_sink::SureSink;
 pub use sure_source::SureSource;
 pub use sure_sut::SureSut;
 pub use sut::{Heard, Sut, SutCall, SutEntry, Told};
-pub use tcp_sut::TcpSut;
-pub use writer_sink::WriterSink;
 
 /// How a program ended.
 #[derive(Clone, Copy, Debug, PartialEq, Eq)]

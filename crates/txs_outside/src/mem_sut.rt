@@ -160,6 +160,3 @@ impl Sut for MemSut {
         self.hang_ups = self.hang_ups.saturating_add(1);
     }
 }
-
-#[cfg(test)]
-mod tests;

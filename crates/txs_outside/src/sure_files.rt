@@ -78,11 +78,11 @@ pub(crate) fn copy_whole(alloc: Global, bytes: &Bytes) -> Result<Bytes, FilesFau
     ensures too_big { IsErrOf result FilesFault.TooBig → 1048576 < length bytes.now }
     ensures sure { IfErr result (λ e. e ≢ FilesFault.Failed) }
 {
-    if bytes.len() > MOST {
+    if bytes.len() > FILE_LIMIT {
         return Err(FilesFault::TooBig);
     }
     Ok(bytes.copy(alloc)?)
 }
 
 /// The most bytes that a file may have.
-pub(crate) const MOST: usize = 1_048_576;
+pub const FILE_LIMIT: usize = 1_048_576;

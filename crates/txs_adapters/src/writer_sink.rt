@@ -1,8 +1,9 @@
 ghost use Rattle.std.specs.Prelude.{◌≡◌, false, IfOk, ◌≤◌, length};
 
-use crate::{Failed, Sink, retrying};
+use crate::retrying;
 use std::io::Write;
 use std::marker::Model;
+use txs_outside::{Failed, Sink};
 
 /// A writer as a sink, which tells none of its bytes. What it takes has reached the other side.
 #[derive(Drop)]
@@ -13,7 +14,7 @@ pub struct WriterSink<W> {
 }
 
 impl<W> Model for WriterSink<W> {
-    ghost use Rattle.txs_outside.specs.Edge.{WriterState};
+    ghost use Rattle.txs_adapters.specs.Edge.{WriterState};
 
     ghost Value = { WriterState };
 

@@ -43,8 +43,9 @@ pub(crate) fn flush<W: Write>(writer: &mut W) -> io::Result<()> {
 #[cfg(test)]
 mod tests {
     use super::*;
-    use crate::{Failed, Got, ReaderSource, Sink, Source, WriterSink};
+    use crate::{ReaderSource, WriterSink};
     use std::test::Fail;
+    use txs_outside::{Failed, Got, Sink, Source};
 
     /// Is interrupted, then gives or takes one byte, then fails.
     #[derive(Drop)]

@@ -1,8 +1,9 @@
 ghost use Rattle.std.specs.Prelude.{◌≡◌, false};
 
-use crate::{Got, Source, retrying};
+use crate::retrying;
 use std::io::Read;
 use std::marker::Model;
+use txs_outside::{Got, Source};
 
 /// A reader as a source, which tells none of its bytes.
 #[derive(Drop)]
@@ -14,7 +15,7 @@ pub struct ReaderSource<R> {
 }
 
 impl<R> Model for ReaderSource<R> {
-    ghost use Rattle.txs_outside.specs.Edge.{ReaderState};
+    ghost use Rattle.txs_adapters.specs.Edge.{ReaderState};
 
     ghost Value = { ReaderState };
 

@@ -1,7 +1,7 @@
 ghost use Rattle.std.specs.Prelude.{◌≡◌, ◌≢◌, length, vec_len, IfOk};
 ghost use Rattle.txs_outside.specs.Calls.{IsTold};
 
-use crate::{End, Ends, Failed, Sut, Told, retrying};
+use crate::retrying;
 use std::alloc::Global;
 use std::io::{ErrorKind, Read, Write};
 use std::marker::Model;
@@ -9,6 +9,7 @@ use std::net::{Net, OpenListener, OpenStream, Shutdown, TcpListener, TcpStream};
 use std::rt::Clock;
 use std::time::{Duration, Instant};
 use std::{io, thread};
+use txs_outside::{End, Ends, Failed, Sut, Told};
 
 /// How long `wait` listens before it answers `Quiet`.
 const LISTEN_MILLIS: u64 = 2_000;
@@ -30,7 +31,7 @@ pub struct TcpSut<R: Net + Clock + Drop> {
 
 impl<R: Net + Clock + Drop> Model for TcpSut<R> {
     ghost use Rattle.std.specs.Prelude.{length};
-    ghost use Rattle.txs_outside.specs.Edge.{TcpState};
+    ghost use Rattle.txs_adapters.specs.Edge.{TcpState};
 
     ghost Value = { TcpState };
 

@@ -1,7 +1,7 @@
 use Rattle.std.proofs.Common.{◌≢◌, length}
 use Rattle.txs_outside.specs.Calls.{IsTold}
 use Rattle.txs_outside.specs.declared.sut.Told.TheVariants.{Quiet, Failed}
-use Rattle.txs_outside.proofs.tcp_sut.look.Given as goal
+use Rattle.txs_adapters.proofs.tcp_sut.look.Given as goal
 
 -- no bytes were found so far, but perhaps an end that ended
 abbrev pub invariant-ends : goal.invariant-ends

@@ -1,5 +1,5 @@
 use Rattle.std.proofs.Common.{◌≡◌, vec_len}
-use Rattle.txs_outside.proofs.tcp_sut.bound.Given as goal
+use Rattle.txs_adapters.proofs.tcp_sut.bound.Given as goal
 
 -- one for each end so far
 abbrev pub invariant-loop-end : goal.invariant-loop-end

@@ -1,12 +1,12 @@
 ghost use Rattle.std.specs.Prelude.{◌≡◌, ◌≢◌, ◌≤◌, length, IfOk};
 
-use crate::sure_files::MOST;
-use crate::{Files, FilesFault, retrying};
+use crate::retrying;
 use std::alloc::Global;
 use std::fs::File;
 use std::io::Read;
 use std::marker::Model;
 use std::rt;
+use txs_outside::{FILE_LIMIT, Files, FilesFault};
 use txs_values::Bytes;
 
 /// The files of the system, which tell no contents.
@@ -57,7 +57,7 @@ fn read_file<R: Read>(alloc: Global, reader: &mut R) -> Result<Bytes, FilesFault
 {
     let mut bytes = Bytes::new(alloc);
     let mut buf = [0u8; 4096];
-    'reads: while bytes.len() <= MOST {
+    'reads: while bytes.len() <= FILE_LIMIT {
         match retrying::read(reader, &mut buf) {
             Ok(0) => return Ok(bytes),
             Ok(count) => bytes.extend(&buf[..count])?,
@@ -79,10 +79,10 @@ mod tests {
         let name = "disk_files_test.bytes";
         let mut files = DiskFiles::new(&rt);
         assert_eq!(rt; files.read_all(alloc, name).err(), Some(FilesFault::Failed));
-        let mut bytes = vec![in alloc; 7u8; MOST]?;
+        let mut bytes = vec![in alloc; 7u8; FILE_LIMIT]?;
         fs::write(&rt, name, bytes.as_slice())?;
-        let whole = files.read_all(alloc, name).ok().ok_or("whole")?;
-        assert_eq!(rt; whole.len(), MOST);
+        let bytes_read = files.read_all(alloc, name).ok().ok_or("read")?;
+        assert_eq!(rt; bytes_read.len(), FILE_LIMIT);
         bytes.push(7)?;
         fs::write(&rt, name, bytes.as_slice())?;
         assert_eq!(rt; files.read_all(alloc, name).err(), Some(FilesFault::TooBig));
