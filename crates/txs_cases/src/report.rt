@@ -94,12 +94,7 @@ fn begun(alloc: Global, name: &Text, status: Status) -> Result<String, NoMemory>
 }
 
 /// A result, with what the objects tell after it.
-fn told(
-    out: String,
-    sink: &MemSink,
-    sut: &MemSut,
-    shows_calls: bool,
-) -> Result<String, NoMemory> {
+fn told(out: String, sink: &MemSink, sut: &MemSut, shows_calls: bool) -> Result<String, NoMemory> {
     let mut out = out;
     out.push_str("out\n")?;
     push_content(&mut out, sink.bytes())?;

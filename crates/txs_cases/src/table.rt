@@ -32,11 +32,7 @@ fn type_of(
     Ok(TypeDef { name, cons })
 }
 
-fn constructor_of(
-    alloc: Global,
-    defs: &[Def],
-    constructor: &ConDef,
-) -> Result<ConsDef, CaseFault> {
+fn constructor_of(alloc: Global, defs: &[Def], constructor: &ConDef) -> Result<ConsDef, CaseFault> {
     let mut fields = Items::new(alloc);
     for decl in constructor.fields.decls.as_slice() {
         add_fields(alloc, defs, &mut fields, decl)?;
