@@ -7,10 +7,10 @@ use std::{env, io};
 use txs_adapters::{DiskFiles, ReaderSource, TcpSut, WriterSink};
 use txs_top::top;
 
-/// The status where memory runs out before the session begins.
+/// The status if memory runs out before the session begins.
 const NO_MEMORY: u8 = 5;
 
-/// The words of the command line behind the program's name. Where one is no text there are none,
+/// The words of the command line after the program's name. If one is no text there are none,
 /// since such words fit no form.
 fn words_of(rt: &(impl Env + AllocGlobal)) -> io::Result<Vec<String>> {
     let mut words = Vec::new(rt.alloc());

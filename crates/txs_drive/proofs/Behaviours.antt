@@ -137,7 +137,7 @@ chosen-is : (loosely : List (List ℕ) → Option Front) (r : Option Front) (t :
 chosen-is loosely None t rest h = absurd (cc)
 chosen-is loosely (Some f) t rest h = (f.0, f.1, refl, h)
 
--- the front of the words spells the term, and these are behind it
+-- the front of the words spells the term, and these are after it
 abbrev pub Fronts : List ℕ → List ℕ → Binding → List (List ℕ) → List (List ℕ) → Term → List (List ℕ) → Type 0
 Fronts i o b bound ws t rest = (taken : List (List ℕ)) × (ws ≡ taken ++ rest) × Spells i o b bound t taken
 

@@ -99,7 +99,7 @@ broke_last y m t d g0 g1 g2 l0 l1 l2 at_end k0 k1 k2 u0 u1 u2 h0 h1 h2 f0 f1 f2 
 lines_cut : (e : Ending) (commands : List ℕ) (lines a b c : List (List ℕ)) → command_lines commands e ≡ lines ++ a → lines ≡ b ++ c → command_lines commands e ≡ b ++ (c ++ a)
 lines_cut e commands lines a b c h k = h ∙ (ap (λ (z : List (List ℕ)). z ++ a) k ∙ append_assoc b c a)
 
--- the ends that are dialled were hung up behind it
+-- the ends that are dialled were hung up after it
 cut_short : (y : Stop) (cut : Cut) (m : Model) (d : ℕ) (g0 g1 l0 l1 : Option (List ℕ)) (at_end : Bool) (k0 k1 k2 : Option (List ℕ)) (u0 u1 u2 : Option (List SutEntry)) (h0 h1 h2 : Option ℕ) (f0 f1 f2 : ℕ) (tail : List ℕ)
     → (x : StoppedInCommands y m d g0 g1 l0 l1 at_end k0 k1 u0 u1 h0 h1 f0 f1) → Adds u1 u2 [] → h2 ≡ hung_after (last_of d) h1 → f2 ≡ f1
     → Grows k0 k2 (text_of m (notes_in x.stopped.events) ++ tail) → IsTail cut m x.stopped.final tail

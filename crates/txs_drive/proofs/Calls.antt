@@ -93,7 +93,7 @@ called_wait m s t u0 u1 h0 h1 f0 f1 x e heeds w h =
       calm = λ n. w.calm (λ z. n (inl z));
     }
 
--- ---- what is left to be done behind a wait
+-- ---- what is left to be done after a wait
 
 rank-hanging : (b : Bool) → rank (cond b (HangUp ∷ []) [] ++ Idle ∷ []) < 3
 rank-hanging true = omega arith

@@ -94,7 +94,7 @@ took_then m s t v k0 k1 k2 u0 u1 u2 h0 h1 h2 f0 f1 f2 a b r w q x y = record {
   went = went_then m s t v k0 k1 k2 u0 u1 u2 h0 h1 h2 f0 f1 f2 x.lines y.lines q x.went y.went;
 }
 
--- what follows stays behind
+-- what follows stays after
 pub took_more : (m : Model) (s t : State) (k0 k1 : Option (List ℕ)) (u0 u1 : Option (List SutEntry)) (h0 h1 : Option ℕ) (f0 f1 : ℕ) (a r d : List ℕ) (q : Bool)
     → LinesCarriedOut m s t k0 k1 u0 u1 h0 h1 f0 f1 a r q → LinesCarriedOut m s t k0 k1 u0 u1 h0 h1 f0 f1 (a ++ d) (r ++ d) q
 took_more m s t k0 k1 u0 u1 h0 h1 f0 f1 a r d q x = record {

@@ -156,7 +156,7 @@ balanced m n s t es (sending {es = rest} v ok r e i l) h =
 from_first : (m : Model) (t : State) (es : List Event) → Leads m at_start es t → Balanced 0 es t
 from_first m t es l = balanced m 0 at_start t es l (refl, omega arith)
 
--- the ends behind a call that was not heeded
+-- the ends after a call that was not heeded
 unheeded_ends : (n : ℕ) (s : State) (es : List Event) → Stands n s → IsUnheeded s es → (dialled_by es n ≡ dialled_in es + n) × (dialled_by es n ≤ 1)
 unheeded_ends n s [] h u = (omega arith, at_most_one n s.todo h.1)
 unheeded_ends n s (dials true ∷ []) h u = (omega (arith, suited n s (Dial ∷ []) h u), omega arith)

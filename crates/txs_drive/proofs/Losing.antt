@@ -12,7 +12,7 @@ loses_then (Some p) None c x y h k = absurd h
 loses_then (Some p) (Some q) None x y h k = absurd k
 loses_then (Some p) (Some q) (Some r) x y h k = h ∙ (ap (λ (z : List ℕ). x ++ z) k ∙ sym (append_assoc x y r))
 
--- where nothing is left behind them, all that was left was given
+-- where nothing is left after them, all that was left was given
 pub loses_all : (a b : Option (List ℕ)) (x : List ℕ) → Loses a b x → Tells b [] → Tells a (x ++ [])
 loses_all None b x h k = tt
 loses_all (Some p) None x h k = absurd h

@@ -7,7 +7,7 @@ use Rattle.txs_drive.specs.Form.{tight, loose}
 use Rattle.txs_drive.specs.inner.Parsing.{Reads, Front, Reader, position_read, binder, channel_read, prefixed, step_read, prefix_read, grouped, choice_read, chosen, front_read}
 use Rattle.txs_values.proofs.Tests.{bytes-eq, yes, no}
 
--- what is read of the words behind the name of a prefix, taken apart
+-- what is read of the words after the name of a prefix, taken apart
 pub prefix-words : (tightly : Reader) (i o : List ℕ) (bound bound' : List (List ℕ)) (name : List ℕ) (ws : List (List ℕ)) (s w a s' w' a' : List ℕ) (more : List (List ℕ)) → 3 ≤ length ws
     → s ≡ get_or ws 0 s → w ≡ get_or ws 1 w → a ≡ get_or ws 2 a → s' ≡ s → w' ≡ w → bound' ≡ bound → a' ≡ a → more ≡ take (length ws - 3) (drop 3 ws) → a' ≡ codes ">->"
     → prefix_read tightly i o bound name ws ≡ step_read (channel_read i o name) (position_read bound' s' w') (λ p. tightly (bound ++ binder p ∷ []) more)
@@ -32,13 +32,13 @@ pub stopped : {X Y : Type 0} (view : X → Position) (seen : Y → Front) (c : �
 stopped view seen c oc op behind Later read q e h = q ∙ (ap (λ (z : Option ℕ). step_read z op behind) (sym e) ∙ ap (λ (z : Option Position). step_read (Some c) z behind) h)
 stopped view seen c oc op behind NoMemory read q e h = tt
 
--- a position that is read, and what is behind it
+-- a position that is read, and what is after it
 pub stepped : {Y : Type 0} (seen : Y → Front) (r : Result Y LoadFault) (c : ℕ) (p : Position) (oc : Option ℕ) (op : Option Position) (behind : Position → Option Front) (read : Option Front)
     → read ≡ step_read oc op behind → Some c ≡ oc → op ≡ Some p → Reads seen r (prefixed c p (behind p)) → Reads seen r read
 stepped seen r c p oc op behind read q e f h =
     subst (λ (z : Option Front). Reads seen r z) (sym (q ∙ (ap (λ (z : Option ℕ). step_read z op behind) (sym e) ∙ ap (λ (z : Option Position). step_read (Some c) z behind) f))) h
 
--- what is read of a word that is neither STOP nor a parenthesis, and of those behind it
+-- what is read of a word that is neither STOP nor a parenthesis, and of those after it
 tight-words : (k : ℕ) (i o : List ℕ) (bound ws : List (List ℕ)) (w w' stops opens : List ℕ) (more : List (List ℕ)) → 1 ≤ length ws → w ≡ get_or ws 0 w → w' ≡ w → more ≡ take (length ws - 1) (drop 1 ws)
     → stops ≡ codes "STOP" → bytes_eq w' stops ≡ false → opens ≡ codes "(" → bytes_eq w' opens ≡ false
     → (front_read (suc k) tight i o bound ws ≡ prefix_read (front_read k tight i o) i o bound w' more) × (length ws ≡ length more + 1)

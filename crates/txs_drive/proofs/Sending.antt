@@ -78,7 +78,7 @@ ends_sent s s1 t u v n k ok d e o told num x z =
     let due : t.todo ≡ says_in n v = sent_says s1.run s1 t v ok o told ∙ ap (λ (i : ℕ). says_in i v) (sym (num ∙ ap (λ (y : State). next_number y.run) (sym e))) in
     z ∙ ap (λ (y : Doing). ends_after y (dialled_of t.run)) (next_is d n v t u due x)
 
--- nothing is due behind the line
+-- nothing is due after the line
 pub undue_sent : (s s1 t u : State) (v : ℤ) (n : ℕ) (ok : Bool) (d : Doing) → s1 ≡ s → ok ≡ true → ToldBy s1.run (λ r. send_told v ok r s1) t → n ≡ next_number s.run → IsNext d t u → due_in u.todo ≡ []
 undue_sent s s1 t u v n ok d e o told num x =
     let due : t.todo ≡ says_in n v = sent_says s1.run s1 t v ok o told ∙ ap (λ (i : ℕ). says_in i v) (sym (num ∙ ap (λ (y : State). next_number y.run) (sym e))) in

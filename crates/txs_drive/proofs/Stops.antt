@@ -63,7 +63,7 @@ stopped_here m s n k u h f lines z e = record {
   ends = e;
 }
 
--- behind a call that was answered
+-- after a call that was answered
 pub stopped_unheeded : (m : Model) (s : State) (n : ℕ) (k : Option (List ℕ)) (u0 u1 : Option (List SutEntry)) (h0 h1 : Option ℕ) (f0 f1 : ℕ) (e : Event)
     → IsUnheeded s (e ∷ []) → Adds u0 u1 (calls_in m (e ∷ []) h0) → h1 ≡ h0 → f0 ≤ f1 → n ≡ dialled_by (e ∷ []) (dialled_of s.run) → Stopped stop.NoMemory m s n k k u0 u1 h0 h1 f0 f1 []
 stopped_unheeded m s n k u0 u1 h0 h1 f0 f1 e due a h l d = record {
@@ -111,7 +111,7 @@ pub fresh_none : (r : Option Run) → IsFresh r → dialled_of r ≡ 0
 fresh_none None h = refl
 fresh_none (Some r) h = h.2
 
--- behind the answer to a dial
+-- after the answer to a dial
 pub dial_ends : (ok : Bool) (n d : ℕ) → n ≡ cond ok 1 0 → d ≡ 0 → n ≡ dialled_by (dials ok ∷ []) d
 dial_ends true n d e z = e
 dial_ends false n d e z = e ∙ sym z
@@ -191,7 +191,7 @@ stopped_in_more x m s n k0 k1 u0 u1 h0 h1 f0 f1 bytes more y = record {
   stopped = y.stopped;
 }
 
--- behind bytes whose lines were carried out
+-- after bytes whose lines were carried out
 pub took_stopped : (x : Stop) (m : Model) (s t : State) (n : ℕ) (k0 k1 k2 : Option (List ℕ)) (u0 u1 u2 : Option (List SutEntry)) (h0 h1 h2 : Option ℕ) (f0 f1 f2 : ℕ) (bytes more pending : List ℕ)
     → LinesCarriedOut m s t k0 k1 u0 u1 h0 h1 f0 f1 bytes pending false → StoppedInBytes x m t n k1 k2 u1 u2 h1 h2 f1 f2 (pending ++ more) → StoppedInBytes x m s n k0 k2 u0 u2 h0 h2 f0 f2 (bytes ++ more)
 took_stopped x m s t n k0 k1 k2 u0 u1 u2 h0 h1 h2 f0 f1 f2 bytes more pending a b = record {

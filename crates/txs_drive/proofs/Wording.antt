@@ -11,11 +11,11 @@ parts-word : (w : List ℕ) → HasNoGap w → parts w ≡ w ∷ []
 parts-word [] h = refl
 parts-word (c ∷ w) h = ap (λ (t : Bool). cond t ([] ∷ parts w) (onto c (parts w))) h.0 ∙ ap (onto c) (parts-word w h.1)
 
--- a gap behind no word
+-- a gap after no word
 pub words-gap : (b : ℕ) (rest : List ℕ) → is_gap b ≡ true → words_of (b ∷ rest) ≡ words_of rest
 words-gap b rest e = ap (filter has_byte) (parts-gap [] b rest tt e)
 
--- a gap behind a word
+-- a gap after a word
 pub words-end : (w : List ℕ) (b : ℕ) (rest : List ℕ) → 0 < length w → HasNoGap w → is_gap b ≡ true → words_of (w ++ b ∷ rest) ≡ w ∷ words_of rest
 words-end [] b rest n h e = absurd (omega arith)
 words-end (c ∷ w) b rest n h e = ap (filter has_byte) (parts-gap (c ∷ w) b rest h e)

@@ -35,7 +35,7 @@ asks_nothing HangUp = true
 asks_nothing Idle = true
 asks_nothing Quit = true
 
--- From one state these events lead to another. A line is read where nothing is left to be done.
+-- From one state these events lead to another. A line is read if nothing is left to be done.
 pub data Leads (m : Model) : State → List Event → State → Type 0 where
   stays : {s : State} → Leads m s [] s
   reading : {s t u : State} {es : List Event} (line : List ℕ)
@@ -145,7 +145,7 @@ abbrev pub hung_by : Doing → Option ℕ → Option ℕ
 hung_by HangUp h = option_map more h
 hung_by _ h = h
 
--- the number of `hang_up`s after events, where it is told
+-- the number of `hang_up`s after events, if it is told
 abbrev pub hung_after : List Event → Option ℕ → Option ℕ
 hung_after [] h = h
 hung_after (reads line ∷ es) h = hung_after es h

@@ -35,7 +35,7 @@ pub data Cut : Type 0 where
 abbrev pub IsTornNote : Model → State → List ℕ → Type 0
 IsTornNote m s tail = (n : Note) × (more : List Doing) × (s.todo ≡ Say n ∷ more) × IsBeginning tail (line_of m n)
 
--- What was taken behind the whole lines: NOMEM, or a beginning of it or of the line that is next.
+-- What was taken after the whole lines: NOMEM, or a beginning of it or of the line that is next.
 abbrev pub IsTail : Cut → Model → State → List ℕ → Type 0
 IsTail by_memory m s tail = tail ≡ no_memory
 IsTail by_sink m s tail = IsTornNote m s tail ⊎ IsBeginning tail no_memory
@@ -48,12 +48,12 @@ IsUnheeded s (dials ok ∷ []) = s.todo ≡ Dial ∷ []
 IsUnheeded s (waits heard ∷ []) = s.todo ≡ Wait ∷ []
 IsUnheeded s _ = ⊥
 
--- Each action that was sent stands in the transcript; where the sink failed, the last may be the one that was due.
+-- Each action that was sent stands in the transcript; if the sink failed, the last may be the one that was due.
 abbrev pub IsTold : Cut → State → List ℤ → List ℤ → Type 0
 IsTold by_memory s sent told = sent ≡ told
 IsTold by_sink s sent told = sent ≡ told ++ due_in s.todo
 
--- how many ends are dialled behind it
+-- how many ends are dialled after it
 abbrev pub dialled_by : List Event → ℕ → ℕ
 dialled_by (dials true ∷ es) n = 1
 dialled_by _ n = n
@@ -90,6 +90,6 @@ pub record CutShort (cut : Cut) (m : Model) (g0 g1 l0 l1 : Option (List ℕ)) (a
   pub told : IsTold cut final (sent_in events) (told_in (notes_in events))
   -- the ends were hung up once for each dial that succeeded, and not else
   pub once : hung_in (events ++ last_of (dialled_by unheeded (dialled_of final.run))) ≡ dialled_in (events ++ unheeded)
-  -- LINK only where the system's count of faults rose
+  -- LINK only if the system's count of faults rose
   pub later : f0 ≤ f1
   pub link : IsNoted (note.Ended Link) (notes_in events) → Rose f0 f1

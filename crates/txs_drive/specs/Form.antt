@@ -74,12 +74,12 @@ IsNumber word n = (list_all is_digit word ≡ true) × IsNumeral 10 word × (n �
 abbrev pub offer : ℕ → Position → List Offer
 offer c p = (record { channel = c; positions = p ∷ [] }) ∷ []
 
--- A behaviour is tight where it may stand behind `>->` and before `##`; every one is loose, and so is a choice.
+-- A behaviour is tight if it may stand after `>->` and before `##`; every one is loose, and so is a choice.
 pub data Binding : Type 0 where
   tight : Binding
   loose : Binding
 
--- the words of a behaviour over the channels i and o, behind the binders of these names
+-- the words of a behaviour over the channels i and o, after the binders of these names
 pub data Spells (i o : List ℕ) : Binding → List (List ℕ) → Term → List (List ℕ) → Type 0 where
   stops : {bound : List (List ℕ)} → Spells i o tight bound stop (codes "STOP" ∷ [])
   takes : {bound : List (List ℕ)} {t : Term} {more : List (List ℕ)} (c : ℕ) (name x : List ℕ)

@@ -28,7 +28,7 @@ abbrev pub parts : List ℕ → List (List ℕ)
 parts [] = [] ∷ []
 parts (b ∷ bs) = cond (eqb b 10) ([] ∷ parts bs) (onto_first b (parts bs))
 
--- the last part is a line where the source ended, and it has bytes
+-- the last part is a line if the source ended, and it has bytes
 abbrev pub last_part : Ending → List ℕ → List (List ℕ)
 last_part end [] = []
 last_part end (b ∷ bs) = (b ∷ bs) ∷ []
@@ -59,12 +59,12 @@ Gave fault given commands = (given ≡ commands) × (length commands ≤ byte_li
 -- ---- how a session comes to rest
 
 -- All lines are carried out and no `quit` was met, or the first `quit` is the last event; so the reference run
--- neither stands still nor goes on behind a `quit`.
+-- neither stands still nor goes on after a `quit`.
 abbrev pub EndsAtRest : Bool → State → List (List ℕ) → List Event → Type 0
 EndsAtRest false s more es = (s.todo ≡ []) × (more ≡ []) × (has_quit es ≡ false)
 EndsAtRest true s more es = (s.todo ≡ []) × (before : List Event) × (es ≡ before ++ does' Quit ∷ []) × (has_quit before ≡ false)
 
--- the status by how the commands ended, whether a `quit` was met, and whether FAIL was written; behind a `quit`
+-- the status by how the commands ended, whether a `quit` was met, and whether FAIL was written; after a `quit`
 -- nothing is read that fails or is past the limit
 abbrev pub by_fail : Bool → ℕ
 by_fail true = 10
@@ -80,7 +80,7 @@ status_of end false failed = Some (by_fail failed)
 status_of fault false failed = Some 3
 status_of limit false failed = Some 6
 
--- where the ends are still dialled at the session's end, they are hung up last
+-- if the ends are still dialled at the session's end, they are hung up last
 abbrev pub last_of : ℕ → List Event
 last_of zero = []
 last_of (suc n) = does' HangUp ∷ []
@@ -115,10 +115,10 @@ pub record Served (m : Model) (g0 g1 l0 l1 : Option (List ℕ)) (at_end : Bool) 
   pub told : sent_in events ≡ told_in (notes_in events)
   -- the ends were hung up once for each dial that succeeded, and not else
   pub once : hung_in (events ++ last_of (dialled_of final.run)) ≡ dialled_in events
-  -- LINK only where the system's count of faults rose, and wherever a call failed; without it the count stands
+  -- LINK only if the system's count of faults rose, and wherever a call failed; without it the count stands
   pub later : f0 ≤ f1
   pub link : IsNoted (note.Ended Link) (notes_in events) → Rose f0 f1
   pub linked : AnyFailed events → IsNoted (note.Ended Link) (notes_in events)
   pub unlinked : (IsNoted (note.Ended Link) (notes_in events) → ⊥) → f1 ≡ f0
-  -- 10 where FAIL was written, else 0; 3 after a read fault, and 6 at the limit of bytes
+  -- 10 if FAIL was written, else 0; 3 after a read fault, and 6 at the limit of bytes
   pub status : status_of ending quits (has_fail (notes_in events)) ≡ Some code

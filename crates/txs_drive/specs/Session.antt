@@ -52,7 +52,7 @@ over_run r = record { trace = r.trace; is_over = true; dialled = r.dialled }
 abbrev pub with_dialled : ℕ → Run → Run
 with_dialled n r = record { trace = r.trace; is_over = r.is_over; dialled = n }
 
--- the ends are hung up where they are dialled
+-- the ends are hung up if they are dialled
 abbrev pub hanging : ℕ → List Doing
 hanging n = cond (nat_lt 0 n) (HangUp ∷ []) []
 
@@ -78,13 +78,13 @@ abbrev pub IfGoing : Option Run → State → (Run → State → Type 0) → Sta
 IfGoing None s go t = t ≡ refused s
 IfGoing (Some r) s go t = (r.is_over ≡ true) × (t ≡ refused s) ⊎ ((r.is_over ≡ false) × go r t)
 
--- an action is sent exactly where the rules allow it after the trace
+-- an action is sent exactly if the rules allow it after the trace
 abbrev pub Stimulates : Model → ℤ → State → Run → State → Type 0
 Stimulates m v s r t =
     MaySend m r.trace v × (t ≡ does (Send v ∷ []) s)
     ⊎ ((MaySend m r.trace v → ⊥) × (t ≡ does (Say note.NotAllowed ∷ Idle ∷ []) s))
 
--- a run begins, where there is none
+-- a run begins, if there is none
 abbrev pub started : Option Run → State → State
 started None s = record { run = Some new_run; has_failed = s.has_failed; todo = Say note.Tester ∷ Dial ∷ [] }
 started (Some r) s = refused s
@@ -115,14 +115,14 @@ seen_note n (seen.In v) = note.In n v
 seen_note n (seen.Out v) = note.Out n v
 seen_note n seen.Quiet = note.Quiet n
 
--- an observation is numbered, and FAIL follows exactly where the rules do not allow it after the trace
+-- an observation is numbered, and FAIL follows exactly if the rules do not allow it after the trace
 abbrev pub Judges : Model → Seen → Run → State → State → Type 0
 Judges m x r s t =
     MaySee m r.trace x × (t ≡ goes_on (seen_run x r) (Say (seen_note (length r.trace + 1) x) ∷ Idle ∷ []) s)
     ⊎ ((MaySee m r.trace x → ⊥)
     × (t ≡ goes_on (over_run (seen_run x r)) (Say (seen_note (length r.trace + 1) x) ∷ ends_with Fail r) s))
 
--- the number of one whole line with nothing behind it
+-- the number of one whole line with nothing after it
 abbrev pub number_in : Option (List ℕ × List ℕ) → Option ℤ
 number_in None = None
 number_in (Some parts) = if_last parts.0 parts.1
@@ -160,7 +160,7 @@ abbrev pub hung_run : Option Run → Option Run
 hung_run None = None
 hung_run (Some r) = Some (with_dialled 0 r)
 
--- the state after a doing that asks nothing, with the doings behind it
+-- the state after a doing that asks nothing, with the doings after it
 abbrev pub done : Doing → List Doing → State → State
 done (Say n) more s = record { run = s.run; has_failed = s.has_failed || is_fail n; todo = more }
 done HangUp more s = record { run = hung_run s.run; has_failed = s.has_failed; todo = more }

@@ -20,7 +20,7 @@ pub enum Answer {
     Later,
 }
 
-/// The number of one whole line with nothing behind it.
+/// The number of one whole line with nothing after it.
 fn number_in(bytes: &[u8]) -> Option<i128>
     ensures { result ≡ number_in (cut_at 10 bytes.now) }
 {

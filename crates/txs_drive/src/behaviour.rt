@@ -69,7 +69,7 @@ fn given(word: &[u8], bound: &[Bytes]) -> Result<Position, LoadFault>
     }
 }
 
-/// `? x` or `! e`, by the sign and the word behind it.
+/// `? x` or `! e`, by the sign and the word after it.
 fn position_of(
     alloc: Global,
     sign: &[u8],
@@ -130,7 +130,7 @@ fn prefix(alloc: Global, channel: u32, position: Position, then: Term) -> Result
     term_prefix(alloc, offers, Items::new(alloc), then)
 }
 
-/// What stood before `)`, and the words behind that.
+/// What stood before `)`, and the words after that.
 fn closed(group: Term, words: &[Bytes]) -> Result<(Term, &[Bytes]), LoadFault>
     ensures { Reads front_of result (closed (term_of group) words.now) }
 {
@@ -153,7 +153,7 @@ fn unbind(bound: &mut Items<Bytes>)
     bound.pop();
 }
 
-/// A prefix of one offer, before what is read behind it, and the words behind that.
+/// A prefix of one offer, before what is read after it, and the words after that.
 #[cycle(behaviour)]
 fn prefixed<'a>(
     alloc: Global,
@@ -178,7 +178,7 @@ fn prefixed<'a>(
     }
 }
 
-/// A prefix, whose first word this is, and the words behind it.
+/// A prefix, whose first word this is, and the words after it.
 #[cycle(behaviour)]
 fn prefix_of<'a>(
     alloc: Global,
@@ -214,7 +214,7 @@ fn prefix_of<'a>(
     }
 }
 
-/// What stands between parentheses, of which the first is gone, and the words behind them.
+/// What stands between parentheses, of which the first is gone, and the words after them.
 #[cycle(behaviour)]
 fn group_of<'a>(
     alloc: Global,
@@ -233,7 +233,7 @@ fn group_of<'a>(
     }
 }
 
-/// A behaviour that may stand behind `>->`, and the words behind it.
+/// A behaviour that may stand after `>->`, and the words after it.
 #[cycle(behaviour)]
 fn tight_of<'a>(
     alloc: Global,
@@ -261,7 +261,7 @@ fn tight_of<'a>(
     }
 }
 
-/// A choice, whose left side this is, where `##` comes next, and the left side alone where it does not.
+/// A choice, whose left side this is, if `##` comes next, and the left side alone if it does not.
 #[cycle(behaviour)]
 fn choice_of<'a>(
     alloc: Global,
@@ -289,7 +289,7 @@ fn choice_of<'a>(
     }
 }
 
-/// A behaviour that may be a choice, and the words behind it.
+/// A behaviour that may be a choice, and the words after it.
 #[cycle(behaviour)]
 fn loose_of<'a>(
     alloc: Global,

@@ -52,7 +52,7 @@ fn place_of_blank(bytes: &[u8]) -> Option<usize>
     bytes.iter().position(|b| is_blank(*b))
 }
 
-/// The parts before and behind the first such byte.
+/// The parts before and after the first such byte.
 pub fn cut(bytes: &[u8], c: u8) -> Option<(&[u8], &[u8])>
     ensures { option_map (λ p. (p.0.now, p.1.now)) result ≡ cut_at c bytes.now }
 {
@@ -66,7 +66,7 @@ pub fn cut(bytes: &[u8], c: u8) -> Option<(&[u8], &[u8])>
     }
 }
 
-/// The first word, and what stands behind the blank after it.
+/// The first word, and what stands after the blank after it.
 pub fn cut_word(bytes: &[u8]) -> (&[u8], &[u8])
     ensures word { result.0.now ≡ (word_cut bytes.now).0 }
     ensures rest { result.1.now ≡ (word_cut bytes.now).1 }

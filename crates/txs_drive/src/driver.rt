@@ -27,7 +27,7 @@ pub enum Stop {
     Sink,
 }
 
-/// How a session goes on behind a step.
+/// How a session goes on after a step.
 #[derive(Clone, Copy)]
 pub enum Next {
     GoesOn,
@@ -147,7 +147,7 @@ fn wait<U: Sut>(
     Ok(())
 }
 
-/// Sends the line of an action, behind which all is prepared; answers whether it was sent.
+/// Sends the line of an action, after which all is prepared; answers whether it was sent.
 fn transmit<U: Sut>(
     session: &mut Session,
     value: i128,
@@ -175,7 +175,7 @@ fn transmit<U: Sut>(
     ok
 }
 
-/// Sends the line of an action and, where it was sent, writes the line that says so. All memory is found before
+/// Sends the line of an action and, if it was sent, writes the line that says so. All memory is found before
 /// it is sent.
 fn send<K: Sink, U: Sut>(
     alloc: Global,

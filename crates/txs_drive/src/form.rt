@@ -20,7 +20,7 @@ pub struct FileWords<'a> {
     pub heard: &'a [u8],
 }
 
-/// How many words stand before a behaviour, and behind it.
+/// How many words stand before a behaviour, and after it.
 const FRONT: usize = 19;
 
 const BACK: usize = 40;
@@ -174,7 +174,7 @@ fn kept<'a>(front: &'a [Bytes], behaviour: &'a [Bytes], back: &'a [Bytes]) -> Op
     }
 }
 
-/// The words that a file may choose, where all others are those of the form.
+/// The words that a file may choose, if all others are those of the form.
 pub fn take_apart(words: &[Bytes]) -> Option<FileWords<'_>>
     ensures { MatchOption result (taken_apart words.now ≡ None) (λ file. taken_apart words.now ≡ Some (file_words_of file)) }
 {

@@ -61,7 +61,7 @@ fn host_text(alloc: Global, word: &[u8]) -> Result<Text, LoadFault>
     }
 }
 
-/// The port, where both links have the same.
+/// The port, if both links have the same.
 fn shared_port(outward: &[u8], inward: &[u8]) -> Option<u16>
     ensures { result ≡ same_port (port_read outward.now) (port_read inward.now) }
 {
@@ -154,7 +154,7 @@ fn load_text(alloc: Global, text: &str) -> Result<Model, LoadFault>
     load_words(alloc, words.as_slice())
 }
 
-/// The model of a file, where it is of the form that is read so far.
+/// The model of a file, if it is of the form that is read so far.
 pub fn run_load(alloc: Global, bytes: &[u8]) -> Result<Model, LoadFault>
     ensures ok { IfOk result (λ m. IsFile bytes.now m) }
     ensures only { IfOk result (λ m. StatesOnly bytes.now m) }

@@ -16,7 +16,7 @@ use txs_outside::{Sink, Source, Status, Sut};
 
 const NOMEM: &str = "NOMEM\n";
 
-/// Writes a line, and answers the status behind it.
+/// Writes a line, and answers the status after it.
 pub fn close<K: Sink>(sink: &mut K, line: &str, code: u8) -> Status
     requires { code ≢ 4 }
     ensures written { result.code ≡ code → Grows (K.taken sink.old) (K.taken sink.new) line.now }
@@ -42,7 +42,7 @@ fn code_of(finish: Finish, failed: bool) -> u8
     }
 }
 
-/// Hangs up where so many ends are dialled.
+/// Hangs up if so many ends are dialled.
 fn hang_up_last<U: Sut>(dialled: usize, sut: &mut U)
     ensures calls { Adds (U.calls sut.old) (U.calls sut.new) [] }
     ensures hang_ups { U.hang_ups sut.new ≡ hung_after (last_of dialled) (U.hang_ups sut.old) }
@@ -69,7 +69,7 @@ pub fn run_plain<S: Source, K: Sink, U: Sut>(
         → Served model.now (S.given source.old) (S.given source.new) (S.left source.old) (S.left source.new) (S.at_end source.new) (K.taken sink.old) (K.taken sink.new) (U.calls sut.old) (U.calls sut.new)
         (U.hang_ups sut.old) (U.hang_ups sut.new) (U.faults sut.old) (U.faults sut.new) result.code }
 
-    // Where the sink failed or memory ran out, so far as it came.
+    // If the sink failed or memory ran out, so far as it came.
     ensures cut_by_sink { result.code ≡ 4 → CutShort by_sink model.now (S.given source.old) (S.given source.new) (S.left source.old) (S.left source.new) (S.at_end source.new) (K.taken sink.old) (K.taken sink.new) (U.calls sut.old) (U.calls sut.new)
         (U.hang_ups sut.old) (U.hang_ups sut.new) (U.faults sut.old) (U.faults sut.new) }
     ensures cut_by_memory { result.code ≡ 5 → CutShort by_memory model.now (S.given source.old) (S.given source.new) (S.left source.old) (S.left source.new) (S.at_end source.new) (K.taken sink.old) (K.taken sink.new) (U.calls sut.old) (U.calls sut.new)

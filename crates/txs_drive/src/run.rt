@@ -95,7 +95,7 @@ fn set_after_action(
     Ok(found)
 }
 
-/// The terms after one more action or quiescence; there are some exactly where the rules allow it.
+/// The terms after one more action or quiescence; there are some exactly if the rules allow it.
 pub(crate) fn set_after(alloc: Global, set: &[Term], seen: Seen) -> Result<Items<Term>, NoMemory>
     requires { ArePlain (terms_of set.now) }
     ensures plain { IfOk result (λ ts. ArePlain (terms_of ts)) }

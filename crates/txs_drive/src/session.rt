@@ -19,14 +19,14 @@ pub struct Session {
     todo: Vec<Doing>,
 }
 
-/// What a run goes on with behind an action, made before it is sent.
+/// What a run goes on with after an action, made before it is sent.
 #[derive(Drop)]
 pub(crate) struct Prepared {
     /// The terms after the action.
     set: Items<Term>,
-    /// What is to be done where it was sent.
+    /// What is to be done if it was sent.
     sent: Vec<Doing>,
-    /// What is to be done where it could not be sent.
+    /// What is to be done if it could not be sent.
     unsent: Vec<Doing>,
 }
 
@@ -127,7 +127,7 @@ impl Session {
         Ok(())
     }
 
-    /// Begins a run, where there is none.
+    /// Begins a run, if there is none.
     fn start(&mut self, alloc: Global, model: &Model) -> Result<(), NoMemory>
         requires plain { IsPlain 0 (term_of model.now.start) }
         requires tied { IsTied (state_of self.old).run }
@@ -146,7 +146,7 @@ impl Session {
         Ok(())
     }
 
-    /// Waits for what the system tells, where a run goes on.
+    /// Waits for what the system tells, if a run goes on.
     fn observe(&mut self, alloc: Global) -> Result<(), NoMemory>
         requires { IsTied (state_of self.old).run }
         ensures observes { OnOk result (IfGoing (state_of self.old).run (state_of self.old) (λ r t. t ≡ does (Doing.Wait ∷ []) (state_of self.old)) (state_of self.new)) }
@@ -160,7 +160,7 @@ impl Session {
         Ok(())
     }
 
-    /// The terms after one more action or quiescence; there are some exactly where the rules allow it.
+    /// The terms after one more action or quiescence; there are some exactly if the rules allow it.
     fn moved(&self, alloc: Global, seen: Seen) -> Result<Items<Term>, NoMemory>
         requires going { IsGoing (state_of self.now).run }
         requires plain { IsPlainRun self.now.run }
@@ -237,7 +237,7 @@ impl Session {
         Ok(())
     }
 
-    /// Sends an action exactly where the rules allow it.
+    /// Sends an action exactly if the rules allow it.
     fn try_send(&mut self, alloc: Global, value: i128) -> Result<(), NoMemory>
         requires going { IsGoing (state_of self.old).run }
         requires plain { IsPlainRun self.old.run }
@@ -254,7 +254,7 @@ impl Session {
         Ok(())
     }
 
-    /// Hangs up where the ends are dialled, and ends the session.
+    /// Hangs up if the ends are dialled, and ends the session.
     fn leave(&mut self, alloc: Global) -> Result<(), NoMemory>
         ensures left { OnOk result (state_of self.new ≡ does (hanging (dialled_of (state_of self.old).run) ++ Doing.Quit ∷ []) (state_of self.old)) }
         ensures busy { OnOk result (IsBusy (state_of self.new).run (state_of self.new).todo) }
@@ -371,7 +371,7 @@ impl Session {
         Ok(())
     }
 
-    /// Makes all that goes on behind an action before it is sent, so that nothing is wanting once it is.
+    /// Makes all that goes on after an action before it is sent, so that nothing is wanting once it is.
     pub(crate) fn prepare(&mut self, alloc: Global, value: i128) -> Result<Prepared, NoMemory>
         requires going { IsGoing (state_of self.old).run }
         requires plain { IsPlainRun self.old.run }
@@ -427,7 +427,7 @@ impl Session {
         }
     }
 
-    /// Numbers an observation; FAIL follows exactly where the rules do not allow it.
+    /// Numbers an observation; FAIL follows exactly if the rules do not allow it.
     fn judge(&mut self, alloc: Global, seen: Seen) -> Result<(), NoMemory>
         requires observed { IsObserved seen }
         requires going { IsGoing (state_of self.old).run }

@@ -16,7 +16,7 @@ IsNoForm words = (file : List ℕ) → IsRun words file → ⊥
 abbrev pub IsNoFile : List ℕ → Type 0
 IsNoFile bytes = (m : Model) → IsFile bytes m → ⊥
 
--- the name is asked for, and these bytes are what it holds, where that is told
+-- the name is asked for, and these bytes are what it holds, if that is told
 pub record Asked (words : List (List ℕ)) (contents : List ℕ → Option (List ℕ)) (bytes : List ℕ) : Type 0 where
   pub file : List ℕ
   pub run : IsRun words file
@@ -35,7 +35,7 @@ pub record OfFile (contents : Option (List ℕ)) (P : Model → Type 0) : Type 0
 abbrev pub Ran : List (List ℕ) → (List ℕ → Option (List ℕ)) → (Model → Type 0) → Type 0
 Ran words contents P = (file : List ℕ) × IsRun words file × OfFile (contents file) P
 
--- more than 1,048,576 bytes, where they are told
+-- more than 1,048,576 bytes, if they are told
 abbrev pub IsLong : Option (List ℕ) → Type 0
 IsLong contents = IfSome contents (λ bytes. 1048576 < length bytes)
 

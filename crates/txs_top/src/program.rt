@@ -78,7 +78,7 @@ fn run<F: Files, S: Source, K: Sink, U: Sut>(
 
 /// The program: words, file, acceptance, session, in this order. It writes to `sink` alone, and calls `sut` alone.
 ///
-/// The statuses are 0 and 10 of a session, 1 for other words, 2 for a file that is refused, 3, 4 and 5 where the source
+/// The statuses are 0 and 10 of a session, 1 for other words, 2 for a file that is refused, 3, 4 and 5 if the source
 /// or the files, the sink, or memory failed, and 6 past a limit of bytes.
 pub fn top<F: Files, S: Source, K: Sink, U: Sut>(
     alloc: Global,
@@ -94,14 +94,14 @@ pub fn top<F: Files, S: Source, K: Sink, U: Sut>(
         (S.given source.old) (S.given source.new) (S.left source.old) (S.left source.new) (S.at_end source.new) (K.taken sink.old) (K.taken sink.new)
         (U.calls sut.old) (U.calls sut.new) (U.hang_ups sut.old) (U.hang_ups sut.new) (U.faults sut.old) (U.faults sut.new) result.code) }
 
-    // Status 1 stands exactly where the words fit no form, but for a fault of the sink; then the usage line is written
+    // Status 1 stands exactly if the words fit no form, but for a fault of the sink; then the usage line is written
     // and nothing else is done.
     ensures usage { IsNoForm (map string_bytes words.now) → (result.code ≡ 1) ⊎ (result.code ≡ 4) }
     ensures usage_only { result.code ≡ 1 → IsNoForm (map string_bytes words.now) }
     ensures usage_line { result.code ≡ 1 → Grows (K.taken sink.old) (K.taken sink.new) (codes "usage: txs run FILE\n") }
     ensures usage_alone { IsNoForm (map string_bytes words.now) → (files.new ≡ files.old) × (source.new ≡ source.old) × (sut.new ≡ sut.old) }
 
-    // Status 2 stands exactly where the file is not of the form, but for a fault or want of memory; then the refusal is
+    // Status 2 stands exactly if the file is not of the form, but for a fault or want of memory; then the refusal is
     // written and nothing else is done.
     ensures refused { (file : List ℕ) (bytes : List ℕ) → IsRun (map string_bytes words.now) file → F.contents files.old file ≡ Some bytes → length bytes ≤ 1048576 → IsNoFile bytes
         → (result.code ≡ 2) ⊎ (result.code ≡ 4) ⊎ (result.code ≡ 5) ⊎ (result.code ≡ 3) × Rose (F.faults files.old) (F.faults files.new) }
@@ -111,16 +111,16 @@ pub fn top<F: Files, S: Source, K: Sink, U: Sut>(
     ensures refused_line { result.code ≡ 2 → Grows (K.taken sink.old) (K.taken sink.new) (codes "REFUSED Later 0\n") }
     ensures refused_alone { result.code ≡ 2 → (source.new ≡ source.old) × (sut.new ≡ sut.old) }
 
-    // Status 3 stands only where the count of the files rose, or where the source's last read failed and no other read of the
-    // session did, so that nothing was read behind it.
+    // Status 3 stands only if the count of the files rose, or if the source's last read failed and no other read of the
+    // session did, so that nothing was read after it.
     ensures read { result.code ≡ 3 →
         Rose (F.faults files.old) (F.faults files.new) × (source.new ≡ source.old) × (sink.new ≡ sink.old) × (sut.new ≡ sut.old)
         ⊎ (S.faults source.new ≡ more (S.faults source.old)) × (S.has_failed source.new ≡ true) × Ran (map string_bytes words.now) (F.contents files.old) (λ m. Served m
         (S.given source.old) (S.given source.new) (S.left source.old) (S.left source.new) (S.at_end source.new) (K.taken sink.old) (K.taken sink.new)
         (U.calls sut.old) (U.calls sut.new) (U.hang_ups sut.old) (U.hang_ups sut.new) (U.faults sut.old) (U.faults sut.new) result.code) }
 
-    // Status 4 stands only where the sink's last write failed and no other write did, so that nothing was written behind
-    // it. A beginning of the line that was due is taken then, behind the whole lines of the session, whose calls were
+    // Status 4 stands only if the sink's last write failed and no other write did, so that nothing was written after
+    // it. A beginning of the line that was due is taken then, after the whole lines of the session, whose calls were
     // made up to there.
     ensures write { result.code ≡ 4 → (K.faults sink.new ≡ more (K.faults sink.old)) × (K.has_failed sink.new ≡ true) }
     ensures torn { result.code ≡ 4 →
@@ -131,7 +131,7 @@ pub fn top<F: Files, S: Source, K: Sink, U: Sut>(
         (S.given source.old) (S.given source.new) (S.left source.old) (S.left source.new) (S.at_end source.new) (K.taken sink.old) (K.taken sink.new)
         (U.calls sut.old) (U.calls sut.new) (U.hang_ups sut.old) (U.hang_ups sut.new) (U.faults sut.old) (U.faults sut.new)) }
 
-    // Where memory ran out, nothing was done yet, or NOMEM closes the whole lines of the session, whose calls were made
+    // If memory ran out, nothing was done yet, or NOMEM closes the whole lines of the session, whose calls were made
     // up to there.
     ensures memory { result.code ≡ 5 →
         (source.new ≡ source.old) × (sink.new ≡ sink.old) × (sut.new ≡ sut.old)
@@ -146,7 +146,7 @@ pub fn top<F: Files, S: Source, K: Sink, U: Sut>(
     // In the end nothing is dialled, whatever the status.
     ensures hung { U.dialled sut.old ≡ 0 → U.dialled sut.new ≡ 0 }
 
-    // Status 6 stands exactly where the file is too long or a byte past the limit of commands was read, but for a fault
+    // Status 6 stands exactly if the file is too long or a byte past the limit of commands was read, but for a fault
     // or want of memory.
     ensures limit { result.code ≡ 6 →
         IsTooLong (map string_bytes words.now) (F.contents files.old) × (source.new ≡ source.old) × (sink.new ≡ sink.old) × (sut.new ≡ sut.old)

@@ -26,7 +26,7 @@ use Rattle.txs_drive.specs.Course.{Event, entry, does', Leads, lines_in, notes_i
 abbrev pub IsLeft : List Event → Type 0
 IsLeft es = (before : List Event) × (es ≡ before ++ does' Quit ∷ []) × (has_quit before ≡ false)
 
--- these events led from s to t, the lines were read, and the sink and the system had what comes of them; where q, the session ended
+-- these events led from s to t, the lines were read, and the sink and the system had what comes of them; if q, the session ended
 pub record CarriedOut (m : Model) (s t : State) (k0 k1 : Option (List ℕ)) (u0 u1 : Option (List SutEntry)) (h0 h1 : Option ℕ) (f0 f1 : ℕ) (lines : List (List ℕ)) (q : Bool) : Type 0 where
   pub events : List Event
   pub leads : Leads m s events t
@@ -96,7 +96,7 @@ IsAhead next.GoesOn s t = IsBusy t.run t.todo × (rank t.todo < rank s.todo)
 IsAhead next.Idle s t = (t.todo ≡ []) × IsTied t.run
 IsAhead next.Quit s t = t.todo ≡ []
 
--- as LinesCarriedOut, where the rest is what is pending unless the session ended
+-- as LinesCarriedOut, if the rest is what is pending unless the session ended
 abbrev pub BytesCarriedOut : Model → State → State → Option (List ℕ) → Option (List ℕ) → Option (List SutEntry) → Option (List SutEntry) → Option ℕ → Option ℕ → ℕ → ℕ → List ℕ → List ℕ → Bool → Type 0
 BytesCarriedOut m s t k0 k1 u0 u1 h0 h1 f0 f1 bytes pending q =
     (rest : List ℕ) × LinesCarriedOut m s t k0 k1 u0 u1 h0 h1 f0 f1 bytes rest q × (q ≡ false → rest ≡ pending)
@@ -120,7 +120,7 @@ has_quit_at finish.End = false
 has_quit_at finish.Failed = false
 has_quit_at finish.TooLong = false
 
--- the last line was carried out, where it has bytes
+-- the last line was carried out, if it has bytes
 abbrev pub LastLineCarriedOut : Model → State → State → Option (List ℕ) → Option (List ℕ) → Option (List SutEntry) → Option (List SutEntry) → Option ℕ → Option ℕ → ℕ → ℕ → List ℕ → Finish → Type 0
 LastLineCarriedOut m s t k0 k1 u0 u1 h0 h1 f0 f1 line f =
     CarriedOut m s t k0 k1 u0 u1 h0 h1 f0 f1 (last_part end line) (has_quit_at f) × IsAtEnd f

@@ -44,7 +44,7 @@ front_words p =
     codes "CHANDEF" ∷ p.chandef ∷ codes "::=" ∷ p.input ∷ codes "," ∷ p.output ∷ codes "::" ∷ codes "Int" ∷ codes "ENDDEF"
     ∷ codes "MODELDEF" ∷ p.name ∷ codes "::=" ∷ codes "CHAN" ∷ codes "IN" ∷ p.input ∷ codes "CHAN" ∷ codes "OUT" ∷ p.output ∷ codes "BEHAVIOUR" ∷ []
 
--- the words behind it, with the first link
+-- the words after it, with the first link
 abbrev pub out_words : FileWords → List (List ℕ)
 out_words p =
     codes "ENDDEF" ∷ codes "CNECTDEF" ∷ p.link ∷ codes "::=" ∷ codes "CLIENTSOCK"
@@ -88,7 +88,7 @@ are_same [] (x ∷ xs) = false
 are_same (w ∷ ws) [] = false
 are_same (w ∷ ws) (x ∷ xs) = bytes_eq w x && are_same ws xs
 
--- the words by their places, where all other words are those of the form
+-- the words by their places, if all other words are those of the form
 abbrev pub kept : List (List ℕ) → List (List ℕ) → List (List ℕ) → Option FileWords
 kept front behaviour back =
     let p = placed front behaviour back in

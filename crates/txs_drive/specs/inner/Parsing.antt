@@ -62,7 +62,7 @@ abbrev pub as_given : Option Expr → Option Position
 as_given None = None
 as_given (Some e) = Some (give e)
 
--- the expression of a word, behind these binders
+-- the expression of a word, after these binders
 abbrev pub expr_read : List (List ℕ) → List ℕ → Option Expr
 expr_read bound word = cond (are_digits word) (as_number (number_read word)) (cond (is_name word) (as_slot (slot_of bound word)) None)
 
@@ -79,15 +79,15 @@ channel_read i o name = cond (bytes_eq name i) (Some 0) (cond (bytes_eq name o) 
 
 -- ---- behaviours
 
--- a term, and the words behind it
+-- a term, and the words after it
 abbrev pub Front : Type 0
 Front = Term × List (List ℕ)
 
--- what a call answers: a term, and the words behind it
+-- what a call answers: a term, and the words after it
 abbrev pub front_of : rust_term.Term × Bor (List Bytes) → Front
 front_of found = (term_of found.0, found.1.now)
 
--- the front of words, behind binders
+-- the front of words, after binders
 abbrev pub Reader : Type 0
 Reader = List (List ℕ) → List (List ℕ) → Option Front
 
@@ -95,7 +95,7 @@ abbrev pub prefixed : ℕ → Position → Option Front → Option Front
 prefixed c p None = None
 prefixed c p (Some f) = Some (prefix (offer c p) [] f.0, f.1)
 
--- a prefix, where its channel and its position are read, before what is read behind it
+-- a prefix, if its channel and its position are read, before what is read after it
 abbrev pub step_read : Option ℕ → Option Position → (Position → Option Front) → Option Front
 step_read None p behind = None
 step_read (Some c) None behind = None
@@ -122,7 +122,7 @@ abbrev pub beside : Term → Option Front → Option Front
 beside a None = None
 beside a (Some f) = Some (choice a f.0, f.1)
 
--- a choice where `##` comes next, and the left side alone where it does not
+-- a choice if `##` comes next, and the left side alone if it does not
 abbrev pub choice_read : (List (List ℕ) → Option Front) → Term → List (List ℕ) → Option Front
 choice_read loosely a [] = Some (a, [])
 choice_read loosely a (word ∷ words) = cond (bytes_eq word (codes "##")) (beside a (loosely words)) (Some (a, word ∷ words))
@@ -141,7 +141,7 @@ front_read (suc k) tight i o bound (word ∷ words) =
     (prefix_read (front_read k tight i o) i o bound word words))
 front_read (suc k) loose i o bound words = chosen (front_read k loose i o bound) (front_read k tight i o bound words)
 
--- a front behind which nothing is left
+-- a front after which nothing is left
 abbrev pub entire : Option Front → Option Term
 entire None = None
 entire (Some f) = alone f.0 f.1

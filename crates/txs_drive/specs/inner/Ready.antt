@@ -114,7 +114,7 @@ abbrev pub rank : List Doing → ℕ
 rank [] = 0
 rank (d ∷ ds) = weight d + rank ds
 
--- The first thing to be done: it is done where it asks the system nothing, and else it stays until it is answered.
+-- The first thing to be done: it is done if it asks the system nothing, and else it stays until it is answered.
 abbrev pub IsNext : Doing → State → State → Type 0
 IsNext d s t = (more : List Doing) × (s.todo ≡ d ∷ more) × AfterNext (asks_nothing d) d more s t
   where
@@ -140,7 +140,7 @@ abbrev pub ends_after : Doing → ℕ → ℕ
 ends_after HangUp n = 0
 ends_after _ n = n
 
--- What goes on behind an action was made before it is sent: the terms after it, what is to be done where it was sent and where it was not, and room in the trace.
+-- What goes on after an action was made before it is sent: the terms after it, what is to be done if it was sent and if it was not, and room in the trace.
 pub record IsPrepared (v : ℤ) (session : rust.Session) (p : rust_prepared.Prepared) : Type 0 where
   pub plain : ArePlain (terms_of p.set)
   pub moved : (m : Model) → Keeps m session.run → IsMoved m (seen.In v) session.run p.set

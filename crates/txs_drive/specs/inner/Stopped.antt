@@ -1,4 +1,4 @@
--- How the parts of a session stop where the sink fails or memory runs out.
+-- How the parts of a session stop if the sink fails or memory runs out.
 use Rattle.std.specs.Prelude.{◌≡◌, ◌⊎◌, ℕ, ◌+◌, ◌≤◌, true, false, Bool, List, [], ◌++◌, length, Option}
 use Rattle.std.specs.List.{AllByRecursion}
 use Rattle.txs_outside.specs.Causes.{Rose}
@@ -15,12 +15,12 @@ use Rattle.txs_drive.specs.Served.{Ending, open', end, command_lines, byte_limit
 use Rattle.txs_drive.specs.Cut.{IsTornNote, IsUnheeded, dialled_by}
 use Rattle.txs_drive.specs.inner.CarriedOut.{HasNoFeed, joined}
 
--- what was taken behind the whole lines; where memory ran out, each action that was sent stands there
+-- what was taken after the whole lines; if memory ran out, each action that was sent stands there
 abbrev pub IsRest : Stop → Model → State → List ℕ → Type 0
 IsRest stop.Sink m s tail = IsTornNote m s tail
 IsRest stop.NoMemory m s tail = (tail ≡ []) × (due_in s.todo ≡ [])
 
--- These events led on from s, with so many ends dialled behind them: some of the lines were read, and the sink and the system had what comes of them.
+-- These events led on from s, with so many ends dialled after them: some of the lines were read, and the sink and the system had what comes of them.
 pub record Stopped (stop : Stop) (m : Model) (s : State) (n : ℕ) (k0 k1 : Option (List ℕ)) (u0 u1 : Option (List SutEntry)) (h0 h1 : Option ℕ) (f0 f1 : ℕ) (lines : List (List ℕ)) : Type 0 where
   pub events : List Event
   pub behind : List (List ℕ)
