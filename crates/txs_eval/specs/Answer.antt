@@ -28,7 +28,7 @@ Answers (bad long) (Err e) = e ≡ fault.Long
 Answers (bad big) (Err e) = e ≡ fault.Size
 Answers (bad wrong) (Err e) = ⊥
 
--- the expression has the type by some signatures that the definitions have, where its variables have the types of these values
+-- the expression has the type by some signatures that the definitions have, if its variables have the types of these values
 pub record IsTyped (d : Definitions) (values : List Value) (e : Expr) (t : Ty) : Type 0 where
   pub signatures : Signatures
   pub definitions : AreTyped (bodies d) signatures

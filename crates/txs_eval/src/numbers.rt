@@ -10,7 +10,7 @@ use crate::fault::Stop;
 use txs_terms::Binary;
 use txs_values::Value;
 
-/// A number, where it is one of Int.
+/// A number, if it is one of Int.
 pub fn integer(number: Option<i128>) -> Result<Value, Stop>
     ensures value { (x : ℤ) → SomeIff number (FitsSigned w128 x) x → Comes result (in_range x) }
     ensures memory { result ≢ Err Stop.NoMemory }
@@ -39,7 +39,7 @@ fn quotient(x: i128, y: i128) -> Result<Value, Stop>
     }
 }
 
-/// What division leaves; by -1 nothing, also where the quotient is no Int.
+/// What division leaves; by -1 nothing, also if the quotient is no Int.
 fn remainder_of(x: i128, y: i128) -> Result<Value, Stop>
     ensures value { Comes result (divided remainder x y) }
     ensures memory { result ≢ Err Stop.NoMemory }

@@ -11,7 +11,7 @@ use std::alloc::Global;
 use txs_terms::Binary;
 use txs_values::{Text, VALUE_HEIGHT_LIMIT, VALUE_SIZE_LIMIT, Value, height_of, size_of};
 
-/// The value, where it is neither too large nor too high.
+/// The value, if it is neither too large nor too high.
 pub fn sized(value: Value) -> Result<Value, Stop>
     ensures value { Comes result (spec.sized (value_of value)) }
     ensures memory { result ≢ Err Stop.NoMemory }

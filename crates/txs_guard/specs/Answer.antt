@@ -36,7 +36,7 @@ point_limit = 64
 unfoldable pub cell_limit : ℕ
 cell_limit = 262144
 
--- the first 64 of them, or Unsat where there is none
+-- the first 64 of them, or Unsat if there is none
 abbrev pub answer_from : List (List Value) → Answer
 answer_from [] = unsat
 answer_from (p ∷ ps) = sat (take point_limit (p ∷ ps))

@@ -1,4 +1,4 @@
--- The candidates of each slot where each has finitely many values, or is an Int that is bounded on both sides.
+-- The candidates of each slot, if each has finitely many values, or is an Int that is bounded on both sides.
 use Rattle.std.specs.Prelude.{ℕ, suc, ℤ, pos, negsuc, ◌+ℤ◌, ◌-ℤ◌, int_lt, Bool, true, false, ◌&&◌, not, cond, eqb, List, [], ◌∷◌, ◌++◌, map, Option, Some, None}
 use Rattle.txs_terms.specs.Action.{from}
 use Rattle.txs_values.specs.Value.{Ty, Value, Table, place_of, integer, truth, string, named, num, bool, cons, no_value}
@@ -27,7 +27,7 @@ low i x = record { of_slot = i; is_low = true; value = x } ∷ []
 abbrev pub high : ℕ → ℤ → List Bound
 high i x = record { of_slot = i; is_low = false; value = x } ∷ []
 
--- the bound of slot i that this operator sets where x is its right side
+-- the bound of slot i that this operator sets if x is its right side
 abbrev pub operator_bounds : Binary → ℕ → ℤ → List Bound
 operator_bounds less_than i x = high i (x -ℤ pos 1)
 operator_bounds at_most i x = high i x
@@ -43,7 +43,7 @@ turned more_than = less_than
 turned at_least = at_most
 turned o = o
 
--- what is made of an Int, where there is one
+-- what is made of an Int, if there is one
 abbrev pub with_number : Option ℤ → (ℤ → List Bound) → List Bound
 with_number None go = []
 with_number (Some x) go = go x
@@ -79,32 +79,32 @@ up_by x (negsuc n) = []
 abbrev pub from_to : ℤ → ℤ → List ℤ
 from_to x y = up_by x (y -ℤ x)
 
--- the Ints between the greatest lower and the least upper bound, where there are both
+-- the Ints between the greatest lower and the least upper bound, if there are both
 abbrev pub between : List ℤ → List ℤ → Option (List Value)
 between [] hs = None
 between (l ∷ ls) [] = None
 between (l ∷ ls) (h ∷ hs) = Some (map num (from_to (greatest l ls) (least h hs)))
 
--- the constructors of a type, where none has fields
+-- the constructors of a type, if none has fields
 abbrev pub plain_made : Table → ℕ → List ℕ → Option (List Value)
 plain_made table k [] = Some []
 plain_made table k (c ∷ cs) =
     elim (plain_made table k cs) [ None ↦ None | Some vs ↦ elim (fields_of (place_of table c) k) [ None ↦ Some vs | Some fs ↦ elim fs [ [] ↦ Some (cons c no_value ∷ vs) | f ∷ gs ↦ None ] ] ]
 
 module _ (table : Table) (bs : List Bound) where
-  -- all values of a slot, where they are bounded so
+  -- all values of a slot, if they are bounded so
   abbrev pub every_value : ℕ → Ty → Option (List Value)
   every_value i integer = between (bounds_for i true bs) (bounds_for i false bs)
   every_value i truth = Some (bool false ∷ bool true ∷ [])
   every_value i string = None
   every_value i (named k) = plain_made table k (from 0 (count_made table))
 
-  -- all values of each slot, where each is bounded so
+  -- all values of each slot, if each is bounded so
   abbrev pub every_slot : ℕ → List Ty → Option (List (List Value))
   every_slot i [] = Some []
   every_slot i (t ∷ ts) =
       elim (every_value i t) [ None ↦ None | Some vs ↦ elim (every_slot (suc i) ts) [ None ↦ None | Some vss ↦ Some (vs ∷ vss) ] ]
 
--- all values of each slot of a query, where each is bounded so
+-- all values of each slot of a query, if each is bounded so
 abbrev pub bounded_case : Query → Option (List (List Value))
 bounded_case q = every_slot q.defs.table (flat (bounds_of q) q.conjuncts) 0 q.slots

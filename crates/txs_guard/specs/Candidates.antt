@@ -1,4 +1,4 @@
--- The candidates of each slot where all atoms are order atoms.
+-- The candidates of each slot, if all atoms are order atoms.
 use Rattle.std.specs.Prelude.{ℕ, zero, suc, ◌+◌, ℤ, pos, ◌+ℤ◌, ◌-ℤ◌, int_lt, true, false, cond, eqb, max, List, [], ◌∷◌, ◌++◌, length, map, take, Option, Some, None}
 use Rattle.std.specs.Ordering.{int_eq}
 use Rattle.std.specs.Str.{bytes_eq}
@@ -77,7 +77,7 @@ abbrev pub count_made : Table → ℕ
 count_made [] = 0
 count_made (t ∷ ts) = length t.constructors + count_made ts
 
--- the fields of constructor c where it is one of type k
+-- the fields of constructor c, if it is one of type k
 abbrev pub fields_of : Option Place → ℕ → Option (List Field)
 fields_of None k = None
 fields_of (Some p) k = cond (eqb p.ty k) (Some p.constructor.fields) None
@@ -130,6 +130,6 @@ abbrev pub order_candidates : Query → List (List Value)
 order_candidates q =
     slot_choices (choices q.defs.table (default_of q.defs.table) (pools_of q) (suc (longest (mentioned q)))) (mentioned q) 0 q.slots
 
--- the candidates, where all atoms are order atoms
+-- the candidates, if all atoms are order atoms
 abbrev pub order_case : Query → Option (List (List Value))
 order_case q = cond (all_order q (atoms_of_all q.conjuncts)) (Some (order_candidates q)) None

@@ -13,7 +13,7 @@ abbrev pub under : Option Spot → ℕ × ℕ → Option Spot
 under None s = None
 under (Some p) s = Some (record { base = p.base; path = p.path ++ s ∷ [] })
 
--- the place that an expression is, where it is one
+-- the place that an expression is, if it is one
 abbrev pub spot_of : Expr → Option Spot
 spot_of (slot i) = Some (record { base = i; path = [] })
 spot_of (one (select c j) e) = under (spot_of e) (c, j)

@@ -68,7 +68,7 @@ distinct_after seen (x ∷ xs) = cond (has seen x) (distinct_after seen xs) (x �
 abbrev pub distinct : List ℕ → List ℕ
 distinct xs = distinct_after [] xs
 
--- a type, and Int where there is none
+-- a type, and Int if there is none
 abbrev pub type_or_integer : Option Ty → Ty
 type_or_integer None = integer
 type_or_integer (Some t) = t

@@ -17,7 +17,7 @@ abbrev pub EndAlike : Defs → List Value → List Value → List Expr → Type 
 EndAlike defs p q [] = Unit {0}
 EndAlike defs p q (e ∷ es) = EndsAlike defs p q e × EndAlike defs p q es
 
--- a conjunct ends alike where its atoms do
+-- a conjunct ends alike if its atoms do
 abbrev pub AtomsDecide : Type 0
 AtomsDecide = (defs : Defs) (p q : List Value) (e : Expr) → EndAlike defs p q (atoms_of e) → EndsAlike defs p q e
 

@@ -12,7 +12,7 @@ use Rattle.txs_terms.specs.Menu.{Item, menu, within, walked}
 abbrev pub Speaks : Model → Scope → Sync → Item → Type 0
 Speaks model scope sync i = (a : Action) × In (channels a) sync.outs × Does model scope i (act a)
 
--- a term is quiescent exactly where no item of its menu is internal, and none does an output at any values
+-- a term is quiescent exactly if no item of its menu is internal, and none does an output at any values
 abbrev pub QuietIsSilent : Type 0
 QuietIsSilent =
     (model : Model) (scope : Scope) (sync : Sync) (t : Term) (n : ℕ) (items : List Item) → WellTyped model scope t → menu model scope t ≡ walked n items

@@ -7,7 +7,7 @@ use Rattle.txs_terms.specs.Typed.{IsTable, IsType}
 use Rattle.txs_values.specs.Spelling.{read_text}
 use Rattle.txs_values.specs.Spelled.{IsSpelling, IsNamed, IsAllowed}
 
--- a text is read as the value that it spells, where that is of its type, in range, and neither too large nor too high; and as nothing else
+-- a text is read as the value that it spells, if that is of its type, in range, and neither too large nor too high; and as nothing else
 abbrev pub ReadIsSpelled : Type 0
 ReadIsSpelled =
     (table : Table) (t : Ty) (bs : List ℕ) (v : Value) → IsNamed table
@@ -26,6 +26,6 @@ abbrev pub SpelledIsOne : Type 0
 SpelledIsOne =
     (table : Table) (t : Ty) (bs : List ℕ) (v w : Value) → IsNamed table → IsSpelling table t v bs → IsSpelling table t w bs → v ≡ w
 
--- where each type has a default, each field a type of the table, and no two constructors one name, texts of any type of it can be read
+-- if each type has a default, each field a type of the table, and no two constructors one name, texts of any type of it can be read
 abbrev pub TablesAreReadable : Type 0
 TablesAreReadable = (table : Table) (t : Ty) → IsTable table → IsNamed table → IsType table t → IsReadable table t

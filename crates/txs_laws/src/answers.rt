@@ -1,7 +1,7 @@
 ghost use Rattle.txs_laws.specs.Answers.{SatIsTrue};
 ghost use Rattle.txs_laws.specs.Cells.{AtomsDecide};
 
-/// A conjunct ends alike at two points where its atoms do.
+/// A conjunct ends alike at two points if its atoms do.
 pub fn atoms_decide()
     ensures { AtomsDecide }
 {}

@@ -22,7 +22,7 @@ pub fn next_is_after()
     ensures { NextIsAfter }
 {}
 
-/// A term is quiescent exactly where no item of its menu is internal and none does an output at any values.
+/// A term is quiescent exactly if no item of its menu is internal and none does an output at any values.
 pub fn quiet_is_silent()
     ensures { QuietIsSilent }
 {}

@@ -79,7 +79,7 @@ module _ (model : Model) (scope : Scope) where
 
 -- ---- moving by an action
 
--- the filled residual, where the guards hold; nothing is told where one of them faults
+-- the filled residual, if the guards hold; nothing is told if one of them faults
 abbrev pub rest_if : Verdict → Term → Option (List Term)
 rest_if holds t = Some (t ∷ [])
 rest_if fails t = Some []
@@ -113,7 +113,7 @@ module _ (model : Model) (scope : Scope) (a : Action) where
       (n : ℕ) × (items : List Item) × (rest : Option (List Term)) × (menu model scope t ≡ walked n items) × Moves set rest
       × (r ≡ and_terms (moved_items model.defs a items) rest)
 
-  -- what moving a set by an action gives: a fault, where some guard on its channels faults, or a set without repeats
+  -- what moving a set by an action gives: a fault, if some guard on its channels faults, or a set without repeats
   pub data MovesTo (set : List Term) : Option (List Term) → Type 0 where
     faults_somewhere : Moves set None → MovesTo set None
     moves_to : (us more : List Term) → Moves set (Some us) → Adds [] us more → MovesTo set (Some more)

@@ -43,7 +43,7 @@ node_limit = 1000000
 
 -- ---- the operators
 
--- an Int, where the number is in range
+-- an Int, if the number is in range
 abbrev pub in_range : ℤ → Outcome
 in_range x = cond (fits x) (fine (num x)) (broken range)
 
@@ -185,7 +185,7 @@ abbrev pub bool_true : Value
 bool_true = bool true
 
 module _ (defs : Defs) where
-  -- the value of an expression, where `left` more levels may be entered and `n` nodes were
+  -- the value of an expression, when `left` more levels may be entered and `n` nodes were
   abbrev pub run : ℕ → Eval
   run zero e n = bad high
   run (suc left) e n = cond (ltb n node_limit) (node defs (run left) e (suc n)) (bad long)

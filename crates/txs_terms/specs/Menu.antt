@@ -103,7 +103,7 @@ abbrev pub without_slots : List Expr → List Expr
 without_slots [] = []
 without_slots (e ∷ es) = cond (has_slot e) (without_slots es) (e ∷ without_slots es)
 
--- goes on where they hold; where they do not, there is no item
+-- goes on if they hold; if they do not, there is no item
 abbrev pub where_holds : Verdict → ℕ → Walk → Walk
 where_holds holds n go = go
 where_holds fails n go = walked n []
@@ -128,7 +128,7 @@ gather f (x ∷ xs) = f x ++ gather f xs
 
 -- ---- prefix and exit
 
--- goes on with what there is; where an expression faulted there is nothing
+-- goes on with what there is; if an expression faulted there is nothing
 abbrev pub where_some : {A : Type 0} → Option A → (A → Walk) → Walk
 where_some None go = faulted eval_fault
 where_some (Some x) go = go x
@@ -486,7 +486,7 @@ module _ (model : Model) (go : Walks) where
   level scope miss n = walked n []
 
 module _ (model : Model) where
-  -- the walk of a term, where a path may meet `left` more nodes and `n` nodes were met
+  -- the walk of a term, when a path may meet `left` more nodes and `n` nodes were met
   abbrev pub walk : ℕ → Walks
   walk zero scope t n = faulted wide
   walk (suc left) scope t n = cond (ltb n walk_limit) (then_walk (level model (walk left) scope t (suc n)) capped) (faulted wide)

@@ -13,7 +13,7 @@ pub record Signature : Type 0 where
   pub takes : List Ty
   pub gives : Ty
 
--- the types of the formal channels and of the parameters of a process, and of its exit's values, where it may exit
+-- the types of the formal channels and of the parameters of a process, and of its exit's values, if it may exit
 pub record ProcessSignature : Type 0 where
   pub formals : Scope
   pub takes : List Ty
@@ -96,7 +96,7 @@ ExitsWith None exit_types = Unit {0}
 ExitsWith (Some ts) exit_types = ts ≡ exit_types
 
 module _ (table : Table) (signatures : Signatures) where
-  -- the expression has this type, where slots and locals have theirs
+  -- the expression has this type, if slots and locals have theirs
   mutual
     pub data Of (slots : List Ty) : List Ty → Expr → Ty → Type 0 where
       val_of : {locals : List Ty} {v : Value} {t : Ty} → HasType table v t → Of slots locals (val v) t
@@ -158,7 +158,7 @@ module _ (table : Table) (signatures : Signatures) where
   OfBindings slots (e ∷ es) [] = ⊥
   OfBindings slots (e ∷ es) (t ∷ ts) = Of slots [] e t × OfBindings (slots ++ t ∷ []) es ts
 
-  -- The term is well typed where its channels and its slots have these types, and it exits with values of no other types than these.
+  -- The term is well typed if its channels and its slots have these types, and it exits with values of no other types than these.
   -- Both sides of a parallel exit so, or one of them never exits, and then the whole does not.
   abbrev pub OfTerm : Scope → List Ty → List Ty → Term → Type 0
   OfTerm scope slots exit_types stop = Unit {0}

@@ -52,7 +52,7 @@ module _ (defs : Defs) (ev : Under) (env : Environment) where
   node_under (let_in x a b) n = then_run (ev env a n) (λ v. ev (with_variable env v) b)
 
 module _ (defs : Defs) where
-  -- the value of an expression under these values, where `left` more levels may be entered and `n` nodes were
+  -- the value of an expression under these values, when `left` more levels may be entered and `n` nodes were
   abbrev pub run_under : ℕ → Under
   run_under zero env e n = bad high
   run_under (suc left) env e n = cond (ltb n node_limit) (node_under defs (run_under left) env e (suc n)) (bad long)

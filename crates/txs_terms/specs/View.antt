@@ -106,7 +106,7 @@ part_of p = record { channel = p.channel; values = values_of p.values }
 abbrev pub action_of : rust_action.Action → Action
 action_of a = map part_of a.parts
 
--- a prefix, which is an internal step where there is no offer
+-- a prefix, which is an internal step if there is no offer
 abbrev pub prefix_by : List Offer → List Expr → Term → Term
 prefix_by [] gs t = step gs t
 prefix_by (o ∷ os) gs t = prefix (o ∷ os) gs t

@@ -193,7 +193,7 @@ pub fn after_action(alloc: Global, set: &[Term], action: &Action) -> Result<Item
     Ok(found)
 }
 
-/// The terms after one more quiescence, where the one set of outputs is the channel by itself.
+/// The terms after one more quiescence, if the one set of outputs is the channel by itself.
 pub fn after_quiescence(alloc: Global, set: &[Term], out: u32) -> Result<Items<Term>, NoMemory>
     requires { ArePlain (terms_of set.now) }
     ensures plain { IfOk result (λ ts. ArePlain (terms_of ts)) }

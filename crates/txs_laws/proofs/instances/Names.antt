@@ -2,7 +2,7 @@
 use Rattle.std.proofs.Common.{◌≡◌, ℕ, List, [], ◌∷◌, ◌++◌, map, refl, ap}
 use Rattle.txs_terms.specs.Expr.{Puts}
 use Rattle.txs_terms.specs.Action.{Channels, in_order}
-use Rattle.txs_terms.specs.Term.{Offer, Term, stop, exits, prefix, step, guard, choice, par, enable, disable, interrupt, hide, call, bind, machine, hit, miss, put_offer, put_term, offer_at, with_channels}
+use Rattle.txs_terms.specs.Term.{Offer, Term, stop, exits, prefix, step, guard, choice, par, enable, disable, interrupt, hide, call, bind, machine, hit, miss, put_term, offer_at, with_channels}
 use Rattle.txs_terms.specs.Rules.{offered}
 use Rattle.txs_laws.specs.Channels.{names_in, gates_in, hidden_in}
 use Rattle.txs_laws.proofs.typing.Terms.{offered_put}

@@ -1,20 +1,20 @@
 -- A point that makes the query True keeps its bounds, and is a cell of the second case.
-use Rattle.std.proofs.Common.{◌≡◌, ℕ, zero, suc, ◌+◌, ◌≤◌, ℤ, pos, negsuc, ◌+ℤ◌, ◌-ℤ◌, ◌<ℤ◌, ◌≤ℤ◌, int_lt, int_le, Bool, true, false, not, ◌&&◌, cond, eqb, ltb, inl, inr, List, [], ◌∷◌, ◌++◌, map, refl, sym, ap, ◌∙◌, subst, arith}
+use Rattle.std.proofs.Common.{◌≡◌, ℕ, zero, suc, ◌+◌, ℤ, pos, negsuc, ◌+ℤ◌, ◌-ℤ◌, ◌<ℤ◌, ◌≤ℤ◌, int_lt, int_le, Bool, true, false, not, ◌&&◌, cond, eqb, ltb, inl, inr, List, [], ◌∷◌, ◌++◌, map, refl, sym, ap, ◌∙◌, subst, arith}
 use Rattle.std.specs.Prelude.{Option, Some, None, slice_get}
 use Rattle.std.proofs.lemmas.Int.{ints}
-use Rattle.std.proofs.lemmas.Bool.{and_parts, both_ways, eqb-true}
+use Rattle.std.proofs.lemmas.Bool.{and_parts, eqb-true}
 use Rattle.txs_terms.specs.Action.{from}
 use Rattle.txs_values.specs.Value.{fields_in, field_types, Ty, integer, truth, string, named, Value, num, bool, text, cons, Values, no_value, and_value, Table, Field, place_of, same_value, has_type, has_fields, HaveTypes}
-use Rattle.txs_terms.specs.Eval.{Defs, Run, got, bad, long, run, eval, then_run, after, binary, fine, broken, Outcome, node_limit, height_limit, Gives, Hold, bool_true}
+use Rattle.txs_terms.specs.Eval.{Defs, Run, got, run, eval, then_run, after, binary, fine, broken, Outcome, node_limit, height_limit, Gives, Hold, bool_true}
 use Rattle.txs_terms.specs.Expr.{Binary, plus, minus, times, divide, remainder, concat, differ, less_than, at_most, more_than, at_least, char_at, Expr, val, slot, local, constant, one, two, equal, both, either, choose, apply, build, let_in, put, put_all, filled, has_slot}
 use Rattle.txs_terms.specs.Rules.{In}
 use Rattle.txs_guard.specs.Atom.{fixed_value, value_in}
 use Rattle.txs_guard.specs.Bounds.{Bound, number_in, low, high, operator_bounds, turned, with_number, left_bounds, bounds_of, bounds_for, greatest, up_by, from_to, between, plain_made, every_value, every_slot, bounded_case}
-use Rattle.txs_guard.specs.Candidates.{cells, count_made, fields_of, least, run_up}
+use Rattle.txs_guard.specs.Candidates.{cells, count_made, fields_of, least}
 use Rattle.txs_guard.specs.Mentioned.{flat}
 use Rattle.txs_guard.specs.Point.{IsPoint, IsTrueAt}
 use Rattle.txs_guard.specs.Query.{Query}
-use Rattle.txs_laws.proofs.rules.Tests.{put_closed, same_value-true, same_value_refl, cond_got, sym_same, then_run_from}
+use Rattle.txs_laws.proofs.rules.Tests.{put_closed, same_value-true, cond_got, sym_same, then_run_from}
 use Rattle.txs_laws.proofs.rules.Lists.{In-append, In_mapped}
 use Rattle.txs_laws.proofs.solver.Members.{In_with_each, In_up_to, made, place_below}
 use Rattle.txs_laws.proofs.solver.Runs.{closed_gives, at_slot, place_gives}

@@ -1,7 +1,7 @@
 -- A conjunct ends alike at two points where its atoms do.
-use Rattle.std.proofs.Common.{◌≡◌, ℕ, zero, suc, Bool, true, false, cond, ltb, List, [], ◌∷◌, ◌++◌, refl, ap, subst}
+use Rattle.std.proofs.Common.{◌≡◌, zero, suc, Bool, true, false, cond, ltb, List, [], ◌∷◌, ◌++◌, refl, ap}
 use Rattle.txs_values.specs.Value.{Value, num, bool, text, cons}
-use Rattle.txs_terms.specs.Eval.{Defs, Run, got, bad, long, run, then_run, if_true, node_limit}
+use Rattle.txs_terms.specs.Eval.{Defs, Run, got, bad, long, run, if_true, node_limit}
 use Rattle.txs_terms.specs.Expr.{negate, negation, to_text, from_text, len, is_made_by, select, Expr, val, slot, local, constant, one, two, equal, both, either, choose, apply, build, let_in, put, filled}
 use Rattle.txs_guard.specs.Atom.{atoms_of}
 use Rattle.txs_laws.specs.Cells.{EndsAlike, EndAlike}

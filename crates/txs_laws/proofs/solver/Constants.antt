@@ -1,10 +1,10 @@
 -- The constants of a well typed query are in range.
-use Rattle.std.proofs.Common.{◌≡◌, ℕ, ℤ, Bool, true, false, ◌||◌, cond, inl, inr, List, [], ◌∷◌, ◌++◌, refl, sym, ap, ◌∙◌, subst}
+use Rattle.std.proofs.Common.{◌≡◌, ℤ, Bool, true, false, ◌||◌, cond, inl, inr, List, [], ◌∷◌, ◌++◌, refl, sym, ap, ◌∙◌, subst}
 use Rattle.std.specs.Prelude.{Option, Some, None}
 use Rattle.std.proofs.lemmas.Bool.{and_parts, or_parts}
 use Rattle.txs_values.specs.Value.{Ty, integer, truth, string, named, Value, num, bool, text, cons, Values, no_value, and_value, Table, fields_in, place_of, HasType, has_type, has_fields, fits}
 use Rattle.txs_terms.specs.Expr.{negate, negation, to_text, from_text, len, is_made_by, select, Expr, val, slot, local, constant, one, two, equal, both, either, choose, apply, build, let_in, Exprs, has_slot, any_has_slot}
-use Rattle.txs_terms.specs.Eval.{Run, got, bad, eval, height_limit}
+use Rattle.txs_terms.specs.Eval.{eval, height_limit}
 use Rattle.txs_terms.specs.Rules.{In}
 use Rattle.txs_terms.specs.Typed.{Signatures, Of, Ofs, val_of, slot_of, local_of, constant_of, one_of, two_of, equal_of, both_of, either_of, choose_of, apply_of, build_of, let_of, none_of, more_of', negation_of, AreTyped, AreGuards}
 use Rattle.txs_guard.specs.Query.{Query}

@@ -2,9 +2,9 @@
 use Rattle.std.proofs.Common.{◌≡◌, ℕ, zero, suc, ℤ, pos, Bool, true, false, not, ◌||◌, ◌&&◌, cond, ltb, ◌⊎◌, inl, inr, List, [], ◌∷◌, ◌++◌, refl, sym, ap, ◌∙◌, subst}
 use Rattle.std.specs.Prelude.{Option, Some, None, slice_get}
 use Rattle.std.specs.Str.{bytes_eq}
-use Rattle.std.proofs.lemmas.Bool.{and_parts, or_cases, both_ways, eqb-true}
+use Rattle.std.proofs.lemmas.Bool.{and_parts, or_cases, eqb-true}
 use Rattle.txs_values.specs.Value.{Ty, integer, truth, string, named, Value, num, bool, text, cons, same_value, has_type}
-use Rattle.txs_terms.specs.Eval.{Run, got, bad, long, run, eval, then_run, after, unary, binary, Outcome, fine, broken, wrong, integer_binary, node_limit}
+use Rattle.txs_terms.specs.Eval.{Run, got, bad, run, eval, then_run, after, unary, binary, Outcome, fine, broken, wrong, integer_binary, node_limit}
 use Rattle.txs_terms.specs.Expr.{negate, negation, to_text, from_text, len, is_made_by, select, Binary, plus, minus, times, divide, remainder, concat, differ, less_than, at_most, more_than, at_least, char_at, Expr, val, slot, local, constant, one, two, equal, both, either, choose, apply, build, let_in, put, filled, has_slot}
 use Rattle.txs_terms.specs.Rules.{In}
 use Rattle.txs_guard.specs.Atom.{has_value, fixed_value, value_in, is_equality, is_integer_side, is_comparison, is_order_operator, is_order_atom, all_order, atoms_of_all}
@@ -14,7 +14,7 @@ use Rattle.txs_guard.specs.Place.{Spot, spot_of, spot_type, is_type, same_ty, is
 use Rattle.txs_guard.specs.Point.{IsPoint}
 use Rattle.txs_guard.specs.Query.{Query}
 use Rattle.txs_laws.specs.Cells.{EndsAlike, EndAlike}
-use Rattle.txs_laws.proofs.rules.Tests.{put_closed, same_value-true, same_value_refl, sym_same}
+use Rattle.txs_laws.proofs.rules.Tests.{put_closed, sym_same}
 use Rattle.std.specs.Cmp.Lexicographic.{bytes_decides}
 use Rattle.txs_laws.proofs.solver.Press.{SameOrder, least_is, pressed_order, pressed_fixed}
 use Rattle.txs_laws.proofs.solver.Texts.{Text}

@@ -2,7 +2,6 @@
 use Rattle.std.proofs.Common.{List, [], ◌∷◌}
 use Rattle.txs_values.specs.Value.{Ty, Table, field_types}
 use Rattle.txs_values.specs.Default.{default_of}
-use Rattle.txs_values.specs.Spelled.{IsNamed}
 use Rattle.txs_values.specs.Faults.{HasValue, HaveValues}
 use Rattle.txs_terms.specs.Typed.{IsTable, IsType, AreTypes}
 use Rattle.txs_laws.specs.Spellings.{TablesAreReadable}

@@ -1,6 +1,6 @@
 -- Under HIDE the slots of hidden channels get values of their types, and the slots that are left are numbered anew.
 use Rattle.std.specs.Prelude.{Option, Some, None, slice_get}
-use Rattle.std.proofs.Common.{◌≡◌, ◌<◌, ◌≤◌, ℕ, zero, suc, ◌+◌, ◌-◌, Bool, true, false, cond, not, ◌&&◌, ◌||◌, eqb, ltb, List, [], ◌∷◌, ◌++◌, length, refl, sym, ap, ◌∙◌, subst, arith, eqb-true, eq-eqb, ltb-true, ltb-false}
+use Rattle.std.proofs.Common.{◌≡◌, ◌<◌, ◌≤◌, ℕ, zero, suc, ◌+◌, ◌-◌, Bool, true, false, cond, not, ◌&&◌, ◌||◌, eqb, ltb, List, [], ◌∷◌, ◌++◌, length, refl, sym, ap, ◌∙◌, subst, arith, eqb-true, ltb-true, ltb-false}
 use Rattle.txs_values.specs.Value.{Ty, Value, HasType, truth}
 use Rattle.txs_terms.specs.Expr.{Expr, val, slot, local, constant, one, two, equal, both, either, choose, apply, build, let_in, Puts, put, put_all, has_slot}
 use Rattle.txs_terms.specs.Eval.{Defs, Run, got, bad, height_limit, run}
