@@ -1,7 +1,7 @@
 ghost use Rattle.std.specs.Prelude.{◌≡◌, MatchResult};
 ghost use Rattle.txs_values.specs.View.{ty_of};
 ghost use Rattle.txs_terms.specs.Expr as of;
-ghost use Rattle.txs_terms.specs.View.{expr_of, binary_of};
+ghost use Rattle.txs_terms.specs.View.{expr_of};
 ghost use Rattle.txs_types.specs.Answer.{want_of};
 ghost use Rattle.txs_types.specs.inner.Parts as parts;
 ghost use Rattle.txs_types.specs.inner.Parts.{Typed as TheTyped, Made, MadeTyped};
@@ -14,41 +14,34 @@ use txs_syntax::Op;
 use txs_terms::{Binary, Expr, Unary};
 use txs_values::{NoMemory, Text, Ty};
 
-fn two(alloc: Global, operator: Binary, a: Expr, b: Expr) -> Result<Expr, NoMemory>
-    ensures { MatchResult result (λ e. expr_of e ≡ of.two (binary_of operator) (expr_of a) (expr_of b)) (λ f. Unit {0}) }
+/// The operator of these sides.
+fn combined(op: Op, a: Boxed<Expr>, b: Boxed<Expr>) -> Expr
+    ensures { expr_of result ≡ parts.make op (expr_of a) (expr_of b) }
 {
-    let a = Boxed::new(alloc, a)?;
-    Ok(Expr::Two(operator, a, Boxed::new(alloc, b)?))
+    match op {
+        Op::Or => Expr::Or(a, b),
+        Op::And => Expr::And(a, b),
+        Op::Equal => Expr::Equal(a, b),
+        Op::Different => Expr::Two(Binary::Differ, a, b),
+        Op::Less => Expr::Two(Binary::LessThan, a, b),
+        Op::AtMost => Expr::Two(Binary::AtMost, a, b),
+        Op::More => Expr::Two(Binary::MoreThan, a, b),
+        Op::AtLeast => Expr::Two(Binary::AtLeast, a, b),
+        Op::Join => Expr::Two(Binary::Concat, a, b),
+        Op::Plus => Expr::Two(Binary::Plus, a, b),
+        Op::Minus => Expr::Two(Binary::Minus, a, b),
+        Op::Times => Expr::Two(Binary::Times, a, b),
+        Op::Divide => Expr::Two(Binary::Divide, a, b),
+        Op::Remainder => Expr::Two(Binary::Remainder, a, b),
+    }
 }
 
 fn operation(alloc: Global, op: Op, a: Expr, b: Expr) -> Result<Expr, NoMemory>
     ensures { MatchResult result (λ e. expr_of e ≡ parts.make op (expr_of a) (expr_of b)) (λ f. Unit {0}) }
 {
-    match op {
-        Op::Or => {
-            let a = Boxed::new(alloc, a)?;
-            Ok(Expr::Or(a, Boxed::new(alloc, b)?))
-        }
-        Op::And => {
-            let a = Boxed::new(alloc, a)?;
-            Ok(Expr::And(a, Boxed::new(alloc, b)?))
-        }
-        Op::Equal => {
-            let a = Boxed::new(alloc, a)?;
-            Ok(Expr::Equal(a, Boxed::new(alloc, b)?))
-        }
-        Op::Different => two(alloc, Binary::Differ, a, b),
-        Op::Less => two(alloc, Binary::LessThan, a, b),
-        Op::AtMost => two(alloc, Binary::AtMost, a, b),
-        Op::More => two(alloc, Binary::MoreThan, a, b),
-        Op::AtLeast => two(alloc, Binary::AtLeast, a, b),
-        Op::Join => two(alloc, Binary::Concat, a, b),
-        Op::Plus => two(alloc, Binary::Plus, a, b),
-        Op::Minus => two(alloc, Binary::Minus, a, b),
-        Op::Times => two(alloc, Binary::Times, a, b),
-        Op::Divide => two(alloc, Binary::Divide, a, b),
-        Op::Remainder => two(alloc, Binary::Remainder, a, b),
-    }
+    let a = Boxed::new(alloc, a)?;
+    let b = Boxed::new(alloc, b)?;
+    Ok(combined(op, a, b))
 }
 
 /// An operator on two sides.
@@ -75,6 +68,14 @@ pub fn negated(alloc: Global, operand: Result<Typed, TypeFault>) -> Result<Expr,
     }
 }
 
+fn conditional(alloc: Global, c: Expr, a: Expr, b: Expr) -> Result<Expr, NoMemory>
+    ensures { MatchResult result (λ e. expr_of e ≡ of.choose (expr_of c) (expr_of a) (expr_of b)) (λ f. Unit {0}) }
+{
+    let c = Boxed::new(alloc, c)?;
+    let a = Boxed::new(alloc, a)?;
+    Ok(Expr::If(c, a, Boxed::new(alloc, b)?))
+}
+
 /// A choice between two branches.
 pub fn chosen(
     alloc: Global,
@@ -89,13 +90,19 @@ pub fn chosen(
     match found {
         Ok((c, (a, b))) => {
             let ty = want.unwrap_or(a.ty);
-            let c = Boxed::new(alloc, c.expr)?;
-            let a = Boxed::new(alloc, a.expr)?;
-            let expr = Expr::If(c, a, Boxed::new(alloc, b.expr)?);
+            let expr = conditional(alloc, c.expr, a.expr, b.expr)?;
             Ok(Typed { expr, ty })
         }
         Err(fault) => Err(fault),
     }
+}
+
+fn local(alloc: Global, name: &Text, value: Expr, body: Expr) -> Result<Expr, NoMemory>
+    ensures { MatchResult result (λ e. expr_of e ≡ of.let_in name.now (expr_of value) (expr_of body)) (λ f. Unit {0}) }
+{
+    let name = name.copy(alloc)?;
+    let value = Boxed::new(alloc, value)?;
+    Ok(Expr::Let(name, value, Boxed::new(alloc, body)?))
 }
 
 /// A name for a value in an expression.
@@ -108,10 +115,8 @@ pub fn bound(
 {
     match found {
         Ok((a, b)) => {
-            let name = name.copy(alloc)?;
             let ty = b.ty;
-            let a = Boxed::new(alloc, a.expr)?;
-            let expr = Expr::Let(name, a, Boxed::new(alloc, b.expr)?);
+            let expr = local(alloc, name, a.expr, b.expr)?;
             Ok(Typed { expr, ty })
         }
         Err(fault) => Err(fault),

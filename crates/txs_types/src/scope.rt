@@ -114,16 +114,14 @@ fn needs_of(
     ensures { IfOk result (λ ts. option_map wants_of ts ≡ names.takes (meaning_of means (map ty_of takes.now))) }
 {
     match means {
-        Meaning::Truth(_) => Ok(None),
-        Meaning::Constant { .. } => Ok(None),
-        Meaning::Function { .. } => Ok(Some(needed(alloc, takes)?)),
-        Meaning::Constructor { .. } => Ok(Some(needed(alloc, takes)?)),
-        Meaning::Test { of, .. } => Ok(Some(one_need(alloc, Some(Ty::Named(of)))?)),
-        Meaning::Selector { of, .. } => Ok(Some(one_need(alloc, Some(Ty::Named(of)))?)),
+        Meaning::Truth(_) | Meaning::Constant { .. } => Ok(None),
+        Meaning::Function { .. } | Meaning::Constructor { .. } => Ok(Some(needed(alloc, takes)?)),
+        Meaning::Test { of, .. } | Meaning::Selector { of, .. } => {
+            Ok(Some(one_need(alloc, Some(Ty::Named(of)))?))
+        }
         Meaning::Not => Ok(Some(one_need(alloc, Some(Ty::Bool))?)),
         Meaning::ToText => Ok(Some(one_need(alloc, None)?)),
-        Meaning::FromText => Ok(Some(one_need(alloc, Some(Ty::Text))?)),
-        Meaning::Length => Ok(Some(one_need(alloc, Some(Ty::Text))?)),
+        Meaning::FromText | Meaning::Length => Ok(Some(one_need(alloc, Some(Ty::Text))?)),
         Meaning::CharAt => Ok(Some(two_needs(alloc, Ty::Text, Ty::Int)?)),
     }
 }
