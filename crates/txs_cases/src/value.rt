@@ -4,8 +4,8 @@ use std::alloc::Global;
 use std::fmt::Write;
 use txs_case::push_line;
 use txs_values::{
-    ConsDef, Extent, Ty, TypeTable, Value, default_extent, default_of, height_of, read_value,
-    size_of, text_of,
+    ConsDef, Extent, Ty, TypeTable, VALUE_HEIGHT_LIMIT, VALUE_SIZE_LIMIT, Value, default_extent,
+    default_of, height_of, read_value, size_of, text_of,
 };
 
 /// The type of this name in a table.
@@ -70,12 +70,18 @@ pub fn default(alloc: Global, definitions: &[u8], name: &[u8]) -> Result<String,
     let table = table_of(alloc, definitions)?;
     let ty = type_in(&table, name)?;
     match default_extent(alloc, &table, ty)? {
+        Some(extent) if is_big(extent) => Ok(String::from_str(alloc, "REFUSED TooBig\n")?),
         Some(_) => {
             let value = default_of(alloc, &table, ty)?;
             value_line(alloc, &table, &value)
         }
         None => none_line(alloc),
     }
+}
+
+/// Whether a value of this extent is past the limits of values.
+fn is_big(extent: Extent) -> bool {
+    extent.size > VALUE_SIZE_LIMIT || extent.height > VALUE_HEIGHT_LIMIT
 }
 
 /// The size and the height of a type's default.
