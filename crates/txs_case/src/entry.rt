@@ -4,7 +4,7 @@ use std::alloc::Global;
 use txs_values::{Bytes, Text};
 
 /// A line of a case that is no content, with the content after it.
-#[derive(Debug, Drop)]
+#[derive(Drop)]
 pub struct Entry {
     /// The number of the line, from 1.
     pub number: u64,

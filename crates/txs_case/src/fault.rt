@@ -3,7 +3,7 @@ use thiserror::Error;
 use txs_values::NoMemory;
 
 /// Why a line was not read.
-#[derive(Clone, Copy, Debug, PartialEq, Eq, Error)]
+#[derive(Clone, Copy, Debug, Error)]
 pub enum CaseFault {
     #[error("not a line of a case file")]
     Form,

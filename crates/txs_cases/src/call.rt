@@ -1,5 +1,5 @@
 /// The calls of single layers.
-#[derive(Clone, Copy, Debug, PartialEq, Eq)]
+#[derive(Clone, Copy)]
 pub enum Call {
     Value,
     Measure,

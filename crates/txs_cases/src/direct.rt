@@ -101,11 +101,13 @@ fn take_definitions(
 
 /// Reads a line after a call: a step of a trace.
 fn take_step(alloc: Global, direct: &mut Direct, entry: &Entry) -> Result<(), CaseFault> {
-    if direct.call != Call::Members {
-        return Err(CaseFault::Form);
+    match direct.call {
+        Call::Members => {
+            direct.steps.push(step_of(alloc, entry)?)?;
+            Ok(())
+        }
+        _ => Err(CaseFault::Form),
     }
-    direct.steps.push(step_of(alloc, entry)?)?;
-    Ok(())
 }
 
 fn step_of(alloc: Global, entry: &Entry) -> Result<Step, CaseFault> {
@@ -141,7 +143,7 @@ fn called(alloc: Global, entry: &Entry) -> Result<Direct, CaseFault> {
     let mut rest = entry.rest.as_str();
     let mut from = 0;
     let mut depth = 0;
-    if call == Call::Tree {
+    if let Call::Tree = call {
         let (first, others) = split_word(rest);
         let (second, others) = split_word(others);
         from = number_of(first)?;

@@ -9,7 +9,7 @@ use txs_types::TypeFault;
 use txs_values::{NoMemory, ReadValueFault};
 
 /// Why a call has no other answer.
-#[derive(Clone, Copy, Debug, Drop)]
+#[derive(Clone, Copy, Drop)]
 pub enum Refusal {
     /// What the case gives is none of what the call takes.
     Unread,

@@ -4,7 +4,7 @@ use std::marker::Model;
 use txs_outside::{Got, MemSource, Source};
 
 /// A source in memory that gives few bytes a read.
-#[derive(Debug, Drop)]
+#[derive(Drop)]
 pub struct SlowSource {
     inner: MemSource,
     most: usize,

@@ -3,7 +3,7 @@ use txs_case::CaseFault;
 use txs_values::NoMemory;
 
 /// Why no more cases are run.
-#[derive(Clone, Copy, Debug, PartialEq, Eq)]
+#[derive(Clone, Copy)]
 pub enum Stop {
     /// The line of this number, from 1, is not of the form.
     BadLine(u64),
