@@ -46,7 +46,7 @@ fn push_part(
     match part {
         Part::Term(term) => {
             let top = term.top(alloc)?;
-            push_top(out, model, parts, top)
+            push_top(alloc, out, model, parts, &top)
         }
         Part::Or => Ok(out.push_str(" ## ")?),
         Part::Close => Ok(out.push(')')?),
@@ -54,23 +54,24 @@ fn push_part(
 }
 
 fn push_top(
+    alloc: Global,
     out: &mut String,
     model: &Model,
     parts: &mut Items<Part>,
-    top: Top,
+    top: &Top,
 ) -> Result<(), NoMemory> {
     match top {
         Top::Stop => Ok(out.push_str("STOP")?),
         Top::Prefix(offers, _guards, then) => {
             push_offers(out, model, offers.as_slice())?;
-            parts.push(Part::Term(then))?;
+            parts.push(Part::Term(then.copy(alloc)?))?;
             Ok(out.push_str(" >-> ")?)
         }
         Top::Choice(left, right) => {
-            put_sides(parts, left, right)?;
+            put_sides(parts, left.copy(alloc)?, right.copy(alloc)?)?;
             Ok(out.push('(')?)
         }
-        _other => Ok(out.push_str("another")?),
+        _ => Ok(out.push_str("another")?),
     }
 }
 
