@@ -219,7 +219,8 @@ fn build(frame: Frame, locals: &mut Values, constructor: u32, args: &Exprs, node
         Ends result (node_under d (run_under d frame.entry.left) (around frame.entry.slots.now locals.old) (of.build constructor (gathered (exprs_of args.now))) nodes) }
     ensures kept { locals.new ≡ locals.old }
 {
-    built(constructor, each(frame, locals, args.as_slice(), nodes))
+    let found = each(frame, locals, args.as_slice(), nodes);
+    built(frame.alloc, constructor, found)
 }
 
 /// An expression that sees the value of another as one more local.

@@ -50,7 +50,7 @@ fn joined(alloc: Global, a: &Text, b: &Text) -> Result<Value, Stop>
 {
     let mut text = String::from_str(alloc, a.as_str())?;
     text.push_str(b.as_str())?;
-    sized(Value::Text(Text::from_string(text)))
+    sized(Value::Text(Text::from_string(alloc, text)?))
 }
 
 /// The character at an index of the text.
@@ -71,7 +71,7 @@ fn char_text(alloc: Global, found: char) -> Result<Value, Stop>
 {
     let mut text = String::new(alloc);
     text.push(found)?;
-    Ok(Value::Text(Text::from_string(text)))
+    Ok(Value::Text(Text::from_string(alloc, text)?))
 }
 
 /// An operator on two texts.
