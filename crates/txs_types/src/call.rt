@@ -21,7 +21,7 @@ use sqlite_items::{Boxed, Items};
 use std::alloc::Global;
 use txs_syntax::Ast;
 use txs_terms::{Binary, Expr, Exprs, Unary};
-use txs_values::{NoMemory, Ty, Value};
+use txs_values::{NoMemory, Ty, made_of};
 
 /// The type of a call, if this one or none is needed.
 pub fn call_type(means: Meaning, want: Option<Ty>) -> Option<Ty>
@@ -71,17 +71,14 @@ fn char_at(alloc: Global, args: Exprs) -> Result<Expr, TypeFault>
 }
 
 /// A constructor of so many fields.
-fn constructed(alloc: Global, number: u32, args: Exprs) -> Expr
-    ensures { (k : ℕ) (ts : List TheType) (want : Option TheType) → length ts ≡ length args
-        → Makes want (names.named_constructor number k ts) (exprs_of args) (expr_of result) (named k) }
+fn constructed(alloc: Global, number: u32, args: Exprs) -> Result<Expr, NoMemory>
+    ensures { IfOk result (λ e. (k : ℕ) (ts : List TheType) (want : Option TheType) → length ts ≡ length args
+        → Makes want (names.named_constructor number k ts) (exprs_of args) (expr_of e) (named k)) }
 {
     if args.is_empty() {
-        Expr::Value(Value::Cons {
-            id: number,
-            fields: Items::new(alloc),
-        })
+        Ok(Expr::Value(made_of(alloc, number, Items::new(alloc))?))
     } else {
-        Expr::Build(number, args)
+        Ok(Expr::Build(number, args))
     }
 }
 
@@ -94,7 +91,10 @@ pub fn applied(alloc: Global, called: &Called, ty: Ty, args: Exprs) -> Result<Ex
     match called.means {
         Meaning::Truth(_) | Meaning::Constant { .. } => unreachable!(),
         Meaning::Function { number, .. } => Ok(Expr::Call(number, args)),
-        Meaning::Constructor { number, .. } => Ok(constructed(alloc, number, args)),
+        Meaning::Constructor { number, .. } => match constructed(alloc, number, args) {
+            Ok(expr) => Ok(expr),
+            Err(_) => Err(TypeFault::NoMemory),
+        },
         Meaning::Test { constructor, .. } => one(alloc, Unary::IsMadeBy(constructor), args),
         Meaning::Selector {
             constructor,
