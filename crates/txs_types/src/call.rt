@@ -17,11 +17,11 @@ use crate::fitting::fitted;
 use crate::meaning::Meaning;
 use crate::scope::{Called, Scope};
 use crate::typed::Typed;
-use sqlite_items::{Boxed, Items};
+use sqlite_items::Items;
 use std::alloc::Global;
 use txs_syntax::Ast;
 use txs_terms::{Binary, Expr, Exprs, Unary};
-use txs_values::{NoMemory, Ty, made_of};
+use txs_values::{NoMemory, Shared, SharedItems, Ty, made_of};
 
 /// The type of a call, if this one or none is needed.
 pub fn call_type(means: Meaning, want: Option<Ty>) -> Option<Ty>
@@ -49,7 +49,7 @@ fn one(alloc: Global, operator: Unary, args: Exprs) -> Result<Expr, TypeFault>
 {
     let mut args = args;
     match args.pop() {
-        Some(a) => Ok(Expr::One(operator, Boxed::new(alloc, a)?)),
+        Some(a) => Ok(Expr::One(operator, Shared::new(alloc, a)?)),
         None => unreachable!(),
     }
 }
@@ -63,8 +63,8 @@ fn char_at(alloc: Global, args: Exprs) -> Result<Expr, TypeFault>
     let mut args = args;
     match (args.pop(), args.pop()) {
         (Some(b), Some(a)) => {
-            let a = Boxed::new(alloc, a)?;
-            Ok(Expr::Two(Binary::CharAt, a, Boxed::new(alloc, b)?))
+            let a = Shared::new(alloc, a)?;
+            Ok(Expr::Two(Binary::CharAt, a, Shared::new(alloc, b)?))
         }
         _ => unreachable!(),
     }
@@ -78,7 +78,7 @@ fn constructed(alloc: Global, number: u32, args: Exprs) -> Result<Expr, NoMemory
     if args.is_empty() {
         Ok(Expr::Value(made_of(alloc, number, Items::new(alloc))?))
     } else {
-        Ok(Expr::Build(number, args))
+        Ok(Expr::Build(number, SharedItems::new(alloc, args)?))
     }
 }
 
@@ -90,7 +90,7 @@ pub fn applied(alloc: Global, called: &Called, ty: Ty, args: Exprs) -> Result<Ex
 {
     match called.means {
         Meaning::Truth(_) | Meaning::Constant { .. } => unreachable!(),
-        Meaning::Function { number, .. } => Ok(Expr::Call(number, args)),
+        Meaning::Function { number, .. } => Ok(Expr::Call(number, SharedItems::new(alloc, args)?)),
         Meaning::Constructor { number, .. } => match constructed(alloc, number, args) {
             Ok(expr) => Ok(expr),
             Err(_) => Err(TypeFault::NoMemory),
