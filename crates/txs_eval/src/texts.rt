@@ -9,20 +9,18 @@ use crate::fault::Stop;
 use crate::numbers::integer;
 use std::alloc::Global;
 use txs_terms::Binary;
-use txs_values::{Text, VALUE_HEIGHT_LIMIT, VALUE_SIZE_LIMIT, Value, height_of, size_of};
+use txs_values::{Text, VALUE_HEIGHT_LIMIT, VALUE_SIZE_LIMIT, Value, is_within};
 
 /// The value, if it is neither too large nor too high.
 pub fn sized(value: Value) -> Result<Value, Stop>
     ensures value { Comes result (spec.sized (value_of value)) }
     ensures memory { result ≢ Err Stop.NoMemory }
 {
-    if size_of(&value) > VALUE_SIZE_LIMIT {
-        return Err(Stop::Size);
+    if is_within(&value, VALUE_SIZE_LIMIT, VALUE_HEIGHT_LIMIT) {
+        Ok(value)
+    } else {
+        Err(Stop::Size)
     }
-    if height_of(&value) > VALUE_HEIGHT_LIMIT {
-        return Err(Stop::Size);
-    }
-    Ok(value)
 }
 
 fn char_count(text: &str) -> usize
