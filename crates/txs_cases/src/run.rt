@@ -89,7 +89,7 @@ fn take_file(alloc: Global, files: &mut NamedFiles, entry: &Entry) -> Result<(),
         return Err(CaseFault::Form);
     }
     files.push(NamedFile {
-        name: Text::from_string(name),
+        name: Text::from_string(alloc, name)?,
         bytes: entry.content.copy(alloc)?,
     })?;
     Ok(())

@@ -10,27 +10,30 @@ fn tester_line(alloc: Global, model: &Model) -> Result<Text, NoMemory>
     ensures { IfOk result (λ t. t ≡ Lines.line_of model.now Note.Tester) }
 {
     let name = model.name.as_str();
-    Ok(Text::from_string(format!(in alloc; "TESTER {name}\n")?))
+    Text::from_string(alloc, format!(in alloc; "TESTER {name}\n")?)
 }
 
 fn in_line(alloc: Global, model: &Model, number: usize, value: i128) -> Result<Text, NoMemory>
     ensures { IfOk result (λ t. t ≡ Lines.line_of model.now (Note.In number value)) }
 {
     let channel = model.input.as_str();
-    Ok(Text::from_string(format!(in alloc; "{number} IN {channel}!{value}\n")?))
+    Text::from_string(alloc, format!(in alloc; "{number} IN {channel}!{value}\n")?)
 }
 
 fn out_line(alloc: Global, model: &Model, number: usize, value: i128) -> Result<Text, NoMemory>
     ensures { IfOk result (λ t. t ≡ Lines.line_of model.now (Note.Out number value)) }
 {
     let channel = model.output.as_str();
-    Ok(Text::from_string(format!(in alloc; "{number} OUT {channel}!{value}\n")?))
+    Text::from_string(
+        alloc,
+        format!(in alloc; "{number} OUT {channel}!{value}\n")?,
+    )
 }
 
 fn quiet_line(alloc: Global, number: usize) -> Result<Text, NoMemory>
     ensures { IfOk result (λ t. t ≡ decimal number ++ codes " OUT QUIET" ++ codes "\n") }
 {
-    Ok(Text::from_string(format!(in alloc; "{number} OUT QUIET\n")?))
+    Text::from_string(alloc, format!(in alloc; "{number} OUT QUIET\n")?)
 }
 
 fn ending_line(ending: Ending) -> &'static str
@@ -62,5 +65,5 @@ pub(crate) fn line_of(alloc: Global, model: &Model, note: Note) -> Result<Text, 
 pub(crate) fn sent_line(alloc: Global, value: i128) -> Result<Text, NoMemory>
     ensures { IfOk result (λ t. t ≡ Lines.sent_line value) }
 {
-    Ok(Text::from_string(format!(in alloc; "{value}\n")?))
+    Text::from_string(alloc, format!(in alloc; "{value}\n")?)
 }

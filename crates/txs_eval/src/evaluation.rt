@@ -16,7 +16,7 @@ use crate::found::{
 };
 use sqlite_items::Items;
 use std::alloc::Global;
-use txs_terms::{Binary, Defs, Expr, Exprs, Unary};
+use txs_terms::{Binary, Defs, Expr, SharedExprs, Unary};
 use txs_values::{Value, Values};
 
 /// How many nodes of an expression may stand within one another.
@@ -196,7 +196,7 @@ fn choose(frame: Frame, locals: &mut Values, c: &Expr, a: &Expr, b: &Expr, nodes
 
 /// A function of the file, on the values of its arguments.
 #[cycle(eval)]
-fn call(frame: Frame, locals: &mut Values, function: u32, args: &Exprs, nodes: u32) -> Found
+fn call(frame: Frame, locals: &mut Values, function: u32, args: &SharedExprs, nodes: u32) -> Found
     ensures value { let d = bodies (definitions_of frame.entry.defs.now) in
         Ends result (node_under d (run_under d frame.entry.left) (around frame.entry.slots.now locals.old) (of.apply function (gathered (exprs_of args.now))) nodes) }
     ensures kept { locals.new ≡ locals.old }
@@ -214,12 +214,19 @@ fn call(frame: Frame, locals: &mut Values, function: u32, args: &Exprs, nodes: u
 
 /// A constructor with the values of its fields.
 #[cycle(eval)]
-fn build(frame: Frame, locals: &mut Values, constructor: u32, args: &Exprs, nodes: u32) -> Found
+fn build(
+    frame: Frame,
+    locals: &mut Values,
+    constructor: u32,
+    args: &SharedExprs,
+    nodes: u32,
+) -> Found
     ensures value { let d = bodies (definitions_of frame.entry.defs.now) in
         Ends result (node_under d (run_under d frame.entry.left) (around frame.entry.slots.now locals.old) (of.build constructor (gathered (exprs_of args.now))) nodes) }
     ensures kept { locals.new ≡ locals.old }
 {
-    built(constructor, each(frame, locals, args.as_slice(), nodes))
+    let found = each(frame, locals, args.as_slice(), nodes);
+    built(frame.alloc, constructor, found)
 }
 
 /// An expression that sees the value of another as one more local.

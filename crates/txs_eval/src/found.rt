@@ -14,7 +14,7 @@ use crate::operators::{binary, unary};
 use crate::texts::sized;
 use std::alloc::Global;
 use txs_terms::{Binary, Unary};
-use txs_values::{TypeTable, Value, Values, copy_value};
+use txs_values::{TypeTable, Value, Values, copy_value, made_of};
 
 /// The value that was found, with the nodes that were entered by then; or why none was.
 pub type Found = Result<(Value, u32), Stop>;
@@ -92,18 +92,11 @@ pub fn truth(found: Found) -> Result<(bool, u32), Stop>
 }
 
 /// A constructor with the fields that were found.
-pub fn built(constructor: u32, found: Result<(Values, u32), Stop>) -> Found
+pub fn built(alloc: Global, constructor: u32, found: Result<(Values, u32), Stop>) -> Found
     ensures value { (r : spec.Runs) → EndEach found r → Ends result (spec.then_runs r (λ vs. spec.after (spec.sized (cons constructor (packed vs))))) }
-    ensures memory { result ≡ Err Stop.NoMemory → found ≡ Err Stop.NoMemory }
 {
     match found {
-        Ok((fields, nodes)) => {
-            let made = Value::Cons {
-                id: constructor,
-                fields,
-            };
-            counted(sized(made), nodes)
-        }
+        Ok((fields, nodes)) => counted(sized(made_of(alloc, constructor, fields)?), nodes),
         Err(stop) => Err(stop),
     }
 }

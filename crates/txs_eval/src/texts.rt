@@ -9,20 +9,18 @@ use crate::fault::Stop;
 use crate::numbers::integer;
 use std::alloc::Global;
 use txs_terms::Binary;
-use txs_values::{Text, VALUE_HEIGHT_LIMIT, VALUE_SIZE_LIMIT, Value, height_of, size_of};
+use txs_values::{Text, VALUE_HEIGHT_LIMIT, VALUE_SIZE_LIMIT, Value, is_within};
 
 /// The value, if it is neither too large nor too high.
 pub fn sized(value: Value) -> Result<Value, Stop>
     ensures value { Comes result (spec.sized (value_of value)) }
     ensures memory { result ≢ Err Stop.NoMemory }
 {
-    if size_of(&value) > VALUE_SIZE_LIMIT {
-        return Err(Stop::Size);
+    if is_within(&value, VALUE_SIZE_LIMIT, VALUE_HEIGHT_LIMIT) {
+        Ok(value)
+    } else {
+        Err(Stop::Size)
     }
-    if height_of(&value) > VALUE_HEIGHT_LIMIT {
-        return Err(Stop::Size);
-    }
-    Ok(value)
 }
 
 fn char_count(text: &str) -> usize
@@ -50,7 +48,7 @@ fn joined(alloc: Global, a: &Text, b: &Text) -> Result<Value, Stop>
 {
     let mut text = String::from_str(alloc, a.as_str())?;
     text.push_str(b.as_str())?;
-    sized(Value::Text(Text::from_string(text)))
+    sized(Value::Text(Text::from_string(alloc, text)?))
 }
 
 /// The character at an index of the text.
@@ -71,7 +69,7 @@ fn char_text(alloc: Global, found: char) -> Result<Value, Stop>
 {
     let mut text = String::new(alloc);
     text.push(found)?;
-    Ok(Value::Text(Text::from_string(text)))
+    Ok(Value::Text(Text::from_string(alloc, text)?))
 }
 
 /// An operator on two texts.

@@ -1,8 +1,8 @@
 ghost use Rattle.std.specs.Prelude.{◌≡◌, IfOk};
 
-use sqlite_items::{Boxed, Items};
+use sqlite_items::Items;
 use std::alloc::Global;
-use txs_values::{NoMemory, Text, Ty, Value, copy_value};
+use txs_values::{NoMemory, Shared, SharedItems, Text, Ty, Value, copy_value};
 
 /// An operator on one value.
 #[derive(Clone, Copy, Debug)]
@@ -46,31 +46,27 @@ pub enum Expr {
     Slot(u32),
     Local(u32),
     Constant(u32),
-    One(Unary, Boxed<Expr>),
-    Two(Binary, Boxed<Expr>, Boxed<Expr>),
-    Equal(Boxed<Expr>, Boxed<Expr>),
-    And(Boxed<Expr>, Boxed<Expr>),
-    Or(Boxed<Expr>, Boxed<Expr>),
-    If(Boxed<Expr>, Boxed<Expr>, Boxed<Expr>),
+    One(Unary, Shared<Expr>),
+    Two(Binary, Shared<Expr>, Shared<Expr>),
+    Equal(Shared<Expr>, Shared<Expr>),
+    And(Shared<Expr>, Shared<Expr>),
+    Or(Shared<Expr>, Shared<Expr>),
+    If(Shared<Expr>, Shared<Expr>, Shared<Expr>),
     /// A function of the file with its arguments.
-    Call(u32, Items<Expr>),
+    Call(u32, SharedExprs),
     /// A constructor with its fields, one at least.
-    Build(u32, Items<Expr>),
+    Build(u32, SharedExprs),
     /// A name, which is printed, for a value in an expression.
-    Let(Text, Boxed<Expr>, Boxed<Expr>),
+    Let(Text, Shared<Expr>, Shared<Expr>),
 }
 
 /// Several expressions, in order.
 pub type Exprs = Items<Expr>;
 
-#[cycle(copy)]
-fn copy_boxed(alloc: Global, expr: &Boxed<Expr>) -> Result<Boxed<Expr>, NoMemory>
-    ensures { IfOk result (λ e. e ≡ expr.now) }
-{
-    Ok(Boxed::new(alloc, copy_expr(alloc, expr.get())?)?)
-}
+/// Several expressions with several owners.
+pub type SharedExprs = SharedItems<Expr>;
 
-#[cycle(copy)]
+/// A copy of an expression, which shares what is below it.
 pub fn copy_expr(alloc: Global, expr: &Expr) -> Result<Expr, NoMemory>
     ensures { IfOk result (λ e. e ≡ expr.now) }
 {
@@ -79,44 +75,39 @@ pub fn copy_expr(alloc: Global, expr: &Expr) -> Result<Expr, NoMemory>
         Expr::Slot(slot) => Ok(Expr::Slot(*slot)),
         Expr::Local(local) => Ok(Expr::Local(*local)),
         Expr::Constant(constant) => Ok(Expr::Constant(*constant)),
-        Expr::One(operator, a) => Ok(Expr::One(*operator, copy_boxed(alloc, a)?)),
+        Expr::One(operator, a) => Ok(Expr::One(*operator, a.share()?)),
         Expr::Two(operator, a, b) => {
-            let a = copy_boxed(alloc, a)?;
-            Ok(Expr::Two(*operator, a, copy_boxed(alloc, b)?))
+            let a = a.share()?;
+            Ok(Expr::Two(*operator, a, b.share()?))
         }
         Expr::Equal(a, b) => {
-            let a = copy_boxed(alloc, a)?;
-            Ok(Expr::Equal(a, copy_boxed(alloc, b)?))
+            let a = a.share()?;
+            Ok(Expr::Equal(a, b.share()?))
         }
         Expr::And(a, b) => {
-            let a = copy_boxed(alloc, a)?;
-            Ok(Expr::And(a, copy_boxed(alloc, b)?))
+            let a = a.share()?;
+            Ok(Expr::And(a, b.share()?))
         }
         Expr::Or(a, b) => {
-            let a = copy_boxed(alloc, a)?;
-            Ok(Expr::Or(a, copy_boxed(alloc, b)?))
+            let a = a.share()?;
+            Ok(Expr::Or(a, b.share()?))
         }
         Expr::If(c, a, b) => {
-            let c = copy_boxed(alloc, c)?;
-            let a = copy_boxed(alloc, a)?;
-            Ok(Expr::If(c, a, copy_boxed(alloc, b)?))
+            let c = c.share()?;
+            let a = a.share()?;
+            Ok(Expr::If(c, a, b.share()?))
         }
-        Expr::Call(function, args) => {
-            Ok(Expr::Call(*function, copy_exprs(alloc, args.as_slice())?))
-        }
-        Expr::Build(constructor, fields) => {
-            Ok(Expr::Build(*constructor, copy_exprs(alloc, fields.as_slice())?))
-        }
+        Expr::Call(function, args) => Ok(Expr::Call(*function, args.share()?)),
+        Expr::Build(constructor, fields) => Ok(Expr::Build(*constructor, fields.share()?)),
         Expr::Let(name, a, b) => {
             let name = name.copy(alloc)?;
-            let a = copy_boxed(alloc, a)?;
-            Ok(Expr::Let(name, a, copy_boxed(alloc, b)?))
+            let a = a.share()?;
+            Ok(Expr::Let(name, a, b.share()?))
         }
     }
 }
 
 /// A copy of each.
-#[cycle(copy)]
 pub fn copy_exprs(alloc: Global, exprs: &[Expr]) -> Result<Exprs, NoMemory>
     ensures { IfOk result (λ es. es ≡ exprs.now) }
 {

@@ -10,14 +10,18 @@ use crate::term::Term;
 use crate::tree::Tree;
 use sqlite_items::{Boxed, Items};
 use std::alloc::Global;
-use txs_values::{NoMemory, Value, Values, copy_value};
+use txs_values::{NoMemory, Shared, SharedItems, Value, Values, copy_value};
 
 #[cycle(fill_all)]
-fn fill_boxed(alloc: Global, expr: &Boxed<Expr>, values: &[Value]) -> Result<Boxed<Expr>, NoMemory>
+fn fill_shared(
+    alloc: Global,
+    expr: &Shared<Expr>,
+    values: &[Value],
+) -> Result<Shared<Expr>, NoMemory>
     ensures { IfOk result (λ e. expr_of e
         ≡ put (filled (values_of values.now)) (expr_of expr.now)) }
 {
-    Ok(Boxed::new(alloc, fill_expr(alloc, expr.get(), values)?)?)
+    Ok(Shared::new(alloc, fill_expr(alloc, expr.get(), values)?)?)
 }
 
 #[cycle(fill_all)]
@@ -30,38 +34,40 @@ fn fill_expr(alloc: Global, expr: &Expr, values: &[Value]) -> Result<Expr, NoMem
         Expr::Slot(slot) => fill_slot(alloc, *slot, values),
         Expr::Local(local) => Ok(Expr::Local(*local)),
         Expr::Constant(constant) => Ok(Expr::Constant(*constant)),
-        Expr::One(operator, a) => Ok(Expr::One(*operator, fill_boxed(alloc, a, values)?)),
+        Expr::One(operator, a) => Ok(Expr::One(*operator, fill_shared(alloc, a, values)?)),
         Expr::Two(operator, a, b) => {
-            let a = fill_boxed(alloc, a, values)?;
-            Ok(Expr::Two(*operator, a, fill_boxed(alloc, b, values)?))
+            let a = fill_shared(alloc, a, values)?;
+            Ok(Expr::Two(*operator, a, fill_shared(alloc, b, values)?))
         }
         Expr::Equal(a, b) => {
-            let a = fill_boxed(alloc, a, values)?;
-            Ok(Expr::Equal(a, fill_boxed(alloc, b, values)?))
+            let a = fill_shared(alloc, a, values)?;
+            Ok(Expr::Equal(a, fill_shared(alloc, b, values)?))
         }
         Expr::And(a, b) => {
-            let a = fill_boxed(alloc, a, values)?;
-            Ok(Expr::And(a, fill_boxed(alloc, b, values)?))
+            let a = fill_shared(alloc, a, values)?;
+            Ok(Expr::And(a, fill_shared(alloc, b, values)?))
         }
         Expr::Or(a, b) => {
-            let a = fill_boxed(alloc, a, values)?;
-            Ok(Expr::Or(a, fill_boxed(alloc, b, values)?))
+            let a = fill_shared(alloc, a, values)?;
+            Ok(Expr::Or(a, fill_shared(alloc, b, values)?))
         }
         Expr::If(c, a, b) => {
-            let c = fill_boxed(alloc, c, values)?;
-            let a = fill_boxed(alloc, a, values)?;
-            Ok(Expr::If(c, a, fill_boxed(alloc, b, values)?))
+            let c = fill_shared(alloc, c, values)?;
+            let a = fill_shared(alloc, a, values)?;
+            Ok(Expr::If(c, a, fill_shared(alloc, b, values)?))
         }
         Expr::Call(function, args) => {
-            Ok(Expr::Call(*function, fill_exprs(alloc, args.as_slice(), values)?))
+            let args = fill_exprs(alloc, args.as_slice(), values)?;
+            Ok(Expr::Call(*function, SharedItems::new(alloc, args)?))
         }
         Expr::Build(constructor, fields) => {
-            Ok(Expr::Build(*constructor, fill_exprs(alloc, fields.as_slice(), values)?))
+            let fields = fill_exprs(alloc, fields.as_slice(), values)?;
+            Ok(Expr::Build(*constructor, SharedItems::new(alloc, fields)?))
         }
         Expr::Let(name, a, b) => {
             let name = name.copy(alloc)?;
-            let a = fill_boxed(alloc, a, values)?;
-            Ok(Expr::Let(name, a, fill_boxed(alloc, b, values)?))
+            let a = fill_shared(alloc, a, values)?;
+            Ok(Expr::Let(name, a, fill_shared(alloc, b, values)?))
         }
     }
 }

@@ -17,11 +17,11 @@ use crate::fitting::fitted;
 use crate::meaning::Meaning;
 use crate::scope::{Called, Scope};
 use crate::typed::Typed;
-use sqlite_items::{Boxed, Items};
+use sqlite_items::Items;
 use std::alloc::Global;
 use txs_syntax::Ast;
 use txs_terms::{Binary, Expr, Exprs, Unary};
-use txs_values::{NoMemory, Ty, Value};
+use txs_values::{NoMemory, Shared, SharedItems, Ty, made_of};
 
 /// The type of a call, if this one or none is needed.
 pub fn call_type(means: Meaning, want: Option<Ty>) -> Option<Ty>
@@ -49,7 +49,7 @@ fn one(alloc: Global, operator: Unary, args: Exprs) -> Result<Expr, TypeFault>
 {
     let mut args = args;
     match args.pop() {
-        Some(a) => Ok(Expr::One(operator, Boxed::new(alloc, a)?)),
+        Some(a) => Ok(Expr::One(operator, Shared::new(alloc, a)?)),
         None => unreachable!(),
     }
 }
@@ -63,25 +63,22 @@ fn char_at(alloc: Global, args: Exprs) -> Result<Expr, TypeFault>
     let mut args = args;
     match (args.pop(), args.pop()) {
         (Some(b), Some(a)) => {
-            let a = Boxed::new(alloc, a)?;
-            Ok(Expr::Two(Binary::CharAt, a, Boxed::new(alloc, b)?))
+            let a = Shared::new(alloc, a)?;
+            Ok(Expr::Two(Binary::CharAt, a, Shared::new(alloc, b)?))
         }
         _ => unreachable!(),
     }
 }
 
 /// A constructor of so many fields.
-fn constructed(alloc: Global, number: u32, args: Exprs) -> Expr
-    ensures { (k : ℕ) (ts : List TheType) (want : Option TheType) → length ts ≡ length args
-        → Makes want (names.named_constructor number k ts) (exprs_of args) (expr_of result) (named k) }
+fn constructed(alloc: Global, number: u32, args: Exprs) -> Result<Expr, NoMemory>
+    ensures { IfOk result (λ e. (k : ℕ) (ts : List TheType) (want : Option TheType) → length ts ≡ length args
+        → Makes want (names.named_constructor number k ts) (exprs_of args) (expr_of e) (named k)) }
 {
     if args.is_empty() {
-        Expr::Value(Value::Cons {
-            id: number,
-            fields: Items::new(alloc),
-        })
+        Ok(Expr::Value(made_of(alloc, number, Items::new(alloc))?))
     } else {
-        Expr::Build(number, args)
+        Ok(Expr::Build(number, SharedItems::new(alloc, args)?))
     }
 }
 
@@ -93,8 +90,11 @@ pub fn applied(alloc: Global, called: &Called, ty: Ty, args: Exprs) -> Result<Ex
 {
     match called.means {
         Meaning::Truth(_) | Meaning::Constant { .. } => unreachable!(),
-        Meaning::Function { number, .. } => Ok(Expr::Call(number, args)),
-        Meaning::Constructor { number, .. } => Ok(constructed(alloc, number, args)),
+        Meaning::Function { number, .. } => Ok(Expr::Call(number, SharedItems::new(alloc, args)?)),
+        Meaning::Constructor { number, .. } => match constructed(alloc, number, args) {
+            Ok(expr) => Ok(expr),
+            Err(_) => Err(TypeFault::NoMemory),
+        },
         Meaning::Test { constructor, .. } => one(alloc, Unary::IsMadeBy(constructor), args),
         Meaning::Selector {
             constructor,

@@ -56,7 +56,7 @@ fn one_without_fields(alloc: Global) -> Result<ConsDefs, NoMemory>
 {
     let mut made = Items::new(alloc);
     made.push(ConsDef {
-        name: Text::from_string(String::new(alloc)),
+        name: Text::from_string(alloc, String::new(alloc))?,
         fields: Items::new(alloc),
     })?;
     Ok(made)

@@ -79,7 +79,7 @@ pub fn test_name(alloc: Global, name: &Text) -> Result<Text, NoMemory>
 {
     let mut test = String::from_str(alloc, "is")?;
     test.push_str(name.as_str())?;
-    Ok(Text::from_string(test))
+    Text::from_string(alloc, test)
 }
 
 /// Puts the selectors of a constructor of type `of` after the other names.

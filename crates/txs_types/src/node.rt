@@ -8,14 +8,13 @@ ghost use Rattle.txs_types.specs.inner.Parts.{Typed as TheTyped, Made, MadeTyped
 
 use crate::fault::TypeFault;
 use crate::typed::Typed;
-use sqlite_items::Boxed;
 use std::alloc::Global;
 use txs_syntax::Op;
 use txs_terms::{Binary, Expr, Unary};
-use txs_values::{NoMemory, Text, Ty};
+use txs_values::{NoMemory, Shared, Text, Ty};
 
 /// The operator of these sides.
-fn combined(op: Op, a: Boxed<Expr>, b: Boxed<Expr>) -> Expr
+fn combined(op: Op, a: Shared<Expr>, b: Shared<Expr>) -> Expr
     ensures { expr_of result ≡ parts.make op (expr_of a) (expr_of b) }
 {
     match op {
@@ -39,8 +38,8 @@ fn combined(op: Op, a: Boxed<Expr>, b: Boxed<Expr>) -> Expr
 fn operation(alloc: Global, op: Op, a: Expr, b: Expr) -> Result<Expr, NoMemory>
     ensures { MatchResult result (λ e. expr_of e ≡ parts.make op (expr_of a) (expr_of b)) (λ f. Unit {0}) }
 {
-    let a = Boxed::new(alloc, a)?;
-    let b = Boxed::new(alloc, b)?;
+    let a = Shared::new(alloc, a)?;
+    let b = Shared::new(alloc, b)?;
     Ok(combined(op, a, b))
 }
 
@@ -63,7 +62,7 @@ pub fn negated(alloc: Global, operand: Result<Typed, TypeFault>) -> Result<Expr,
     ensures { Made (λ (t : TheTyped). of.one of.negate (expr_of t.expr)) operand result }
 {
     match operand {
-        Ok(typed) => Ok(Expr::One(Unary::Negate, Boxed::new(alloc, typed.expr)?)),
+        Ok(typed) => Ok(Expr::One(Unary::Negate, Shared::new(alloc, typed.expr)?)),
         Err(fault) => Err(fault),
     }
 }
@@ -71,9 +70,9 @@ pub fn negated(alloc: Global, operand: Result<Typed, TypeFault>) -> Result<Expr,
 fn conditional(alloc: Global, c: Expr, a: Expr, b: Expr) -> Result<Expr, NoMemory>
     ensures { MatchResult result (λ e. expr_of e ≡ of.choose (expr_of c) (expr_of a) (expr_of b)) (λ f. Unit {0}) }
 {
-    let c = Boxed::new(alloc, c)?;
-    let a = Boxed::new(alloc, a)?;
-    Ok(Expr::If(c, a, Boxed::new(alloc, b)?))
+    let c = Shared::new(alloc, c)?;
+    let a = Shared::new(alloc, a)?;
+    Ok(Expr::If(c, a, Shared::new(alloc, b)?))
 }
 
 /// A choice between two branches.
@@ -101,8 +100,8 @@ fn local(alloc: Global, name: &Text, value: Expr, body: Expr) -> Result<Expr, No
     ensures { MatchResult result (λ e. expr_of e ≡ of.let_in name.now (expr_of value) (expr_of body)) (λ f. Unit {0}) }
 {
     let name = name.copy(alloc)?;
-    let value = Boxed::new(alloc, value)?;
-    Ok(Expr::Let(name, value, Boxed::new(alloc, body)?))
+    let value = Shared::new(alloc, value)?;
+    Ok(Expr::Let(name, value, Shared::new(alloc, body)?))
 }
 
 /// A name for a value in an expression.

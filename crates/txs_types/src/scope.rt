@@ -12,7 +12,7 @@ use crate::typed::Typed;
 use sqlite_items::Items;
 use std::alloc::Global;
 use txs_terms::Expr;
-use txs_values::{FieldDef, FieldDefs, NoMemory, Text, Ty, Types, Value};
+use txs_values::{FieldDef, FieldDefs, NoMemory, Text, Ty, Types, Value, made_of};
 
 /// What names mean at a place: how many types there are, the names of the file, and the variables, outermost first.
 #[derive(Drop)]
@@ -47,33 +47,30 @@ fn last_of(variables: &[FieldDef], name: &Text) -> Option<(usize, Ty)>
 }
 
 /// What a name of the file means alone.
-fn alone(alloc: Global, global: &GlobalName) -> Option<Typed>
-    ensures { option_map typed_of result ≡ names.alone (global_of global.now).means }
+fn alone(alloc: Global, global: &GlobalName) -> Result<Option<Typed>, NoMemory>
+    ensures { IfOk result (λ t. option_map typed_of t ≡ names.alone (global_of global.now).means) }
 {
     match global.means {
-        Meaning::Truth(b) => Some(Typed {
+        Meaning::Truth(b) => Ok(Some(Typed {
             expr: Expr::Value(Value::Bool(b)),
             ty: Ty::Bool,
-        }),
-        Meaning::Constant { number, ty } => Some(Typed {
+        })),
+        Meaning::Constant { number, ty } => Ok(Some(Typed {
             expr: Expr::Constant(number),
             ty,
-        }),
+        })),
         Meaning::Constructor { number, of } => {
             if global.takes.is_empty() {
-                let value = Value::Cons {
-                    id: number,
-                    fields: Items::new(alloc),
-                };
-                Some(Typed {
+                let value = made_of(alloc, number, Items::new(alloc))?;
+                Ok(Some(Typed {
                     expr: Expr::Value(value),
                     ty: Ty::Named(of),
-                })
+                }))
             } else {
-                None
+                Ok(None)
             }
         }
-        _ => None,
+        _ => Ok(None),
     }
 }
 
@@ -151,7 +148,7 @@ impl Scope {
             return Ok(Some(variable(number, ty, false)?));
         }
         match self.globals.find(name) {
-            Some(global) => Ok(alone(alloc, global)),
+            Some(global) => alone(alloc, global),
             None => Ok(None),
         }
     }

@@ -101,5 +101,6 @@ pub fn text_of(alloc: Global, table: &TypeTable, value: &Value) -> Result<Text, 
 {
     let mut out = String::new(alloc);
     write_value(alloc, &mut out, table, value)?;
-    Ok(Text::from_string(out))
+    let text = Text::from_string(alloc, out)?;
+    Ok(text)
 }

@@ -7,7 +7,7 @@ ghost use Rattle.txs_values.specs.View.{ty_of, value_of};
 
 use crate::{
     ConsDef, FieldDef, NoMemory, Text, Ty, TypeDef, TypeTable, VALUE_HEIGHT_LIMIT,
-    VALUE_SIZE_LIMIT, Value,
+    VALUE_SIZE_LIMIT, Value, made_of,
 };
 use sqlite_items::Items;
 use std::alloc::Global;
@@ -174,7 +174,7 @@ fn build(
     match ty {
         Ty::Int => Ok(Value::Int(0)),
         Ty::Bool => Ok(Value::Bool(false)),
-        Ty::Text => Ok(Value::Text(Text::from_string(String::new(alloc)))),
+        Ty::Text => Ok(Value::Text(Text::from_string(alloc, String::new(alloc))?)),
         Ty::Named(k) => match chosen_in(found, k) {
             None => Err(NoMemory),
             Some(choice) => match table.constructor_at(choice.id) {
@@ -184,10 +184,8 @@ fn build(
                     for field in constructor.fields.as_slice() {
                         fields.push(build(alloc, table, found, field.ty, levels - 1)?)?;
                     }
-                    Ok(Value::Cons {
-                        id: choice.id,
-                        fields,
-                    })
+                    let made = made_of(alloc, choice.id, fields)?;
+                    Ok(made)
                 }
             },
         },

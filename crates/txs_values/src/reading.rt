@@ -11,7 +11,7 @@ ghost use Rattle.txs_values.specs.View.{value_of, values_of, ty_of};
 use crate::byte::is_name_byte;
 use crate::ints::{is_number, number_value, skip_blanks, split_number};
 use crate::table::FieldDef;
-use crate::{Text, Ty, TypeTable, Value, Values, memory};
+use crate::{Text, Ty, TypeTable, Value, Values, made_of, memory};
 use sqlite_items::Items;
 use std::alloc::{AllocError, AllocFailed, Global};
 
@@ -267,20 +267,14 @@ fn fields_behind<'a>(
         (λ e. Stopped e (spec.fields_read (value_below table.now left) id (map field_of fields.now) bytes.now)) }
 {
     match fields {
-        [] => Ok((
-            Value::Cons {
-                id,
-                fields: Items::new(alloc),
-            },
-            bytes,
-        )),
+        [] => Ok((made_of(alloc, id, Items::new(alloc))?, bytes)),
         [_, ..] => {
             if left == 0 {
                 return Err(full(skip_blanks(bytes)));
             }
             let rest = symbol(b'(', bytes)?;
             let (values, end) = arguments(alloc, table, fields, rest, left - 1)?;
-            Ok((Value::Cons { id, fields: values }, end))
+            Ok((made_of(alloc, id, values)?, end))
         }
     }
 }

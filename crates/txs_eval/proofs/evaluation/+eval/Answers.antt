@@ -82,4 +82,4 @@ pub build-returns-clause-value : goal.build-returns-clause-value
 build-returns-clause-value t c =
     let run = run_under (bodies (definitions_of c.args.frame.defs.now)) c.args.frame.left (around c.args.frame.slots.now c.args.locals.now) in
     rw (spread (exprs_of c.args.args.now))
-    (c.built.ensures.value _ (subst (λ l. EndEach c.each.result (each_under run (exprs_of l) c.args.nodes)) c.as_slice.ensures c.each.ensures.value))
+    (c.built.ensures.value _ (subst (λ l. EndEach c.each-found.result (each_under run (exprs_of l) c.args.nodes)) c.as_slice.ensures c.each-found.ensures.value))

@@ -1,4 +1,4 @@
-use Rattle.std.proofs.Common.{◌≡◌, [], ◌∷◌, sym, subst, map, MatchResult}
+use Rattle.std.proofs.Common.{◌≡◌, ◌∙◌, [], ◌∷◌, ap, sym, subst, map, MatchResult}
 use Rattle.txs_values.specs.View.{ty_of}
 use Rattle.txs_terms.specs.Expr.{one, two, char_at, is_made_by, select, negation, to_text, from_text, len}
 use Rattle.txs_terms.specs.View.{expr_of, exprs_of, gathered}
@@ -15,15 +15,16 @@ use Rattle.txs_types.specs.inner.Parts.{Applies}
 use Rattle.txs_types.proofs.judging.Calls.{of_one, of_two}
 use Rattle.txs_types.proofs.call.applied.Goals as goal
 
-pub returns-in-Function : goal.returns-in-Function
-returns-in-Function c =
+pub returns-in_ok-new-in-Function : goal.returns-in_ok-new-in-Function
+returns-in_ok-new-in-Function c =
     let ts = map ty_of c.args.called.now.takes in
     let t = ty_of c.args.ty in
     let es = exprs_of c.args.args in
     let f = c.in-Function.number in
-    let e : expr_of (rust_call.Call f c.args.args) ≡ apply f (gathered es) = at_call f c.args.args in
-    subst (λ (m : rust_meaning.Meaning). Applies (meaning_of m ts) t es (expr_of (rust_call.Call f c.args.args))) (sym c.in-Function.is)
-    (λ want h. subst (Makes want (named_function f ts (ty_of c.in-Function.gives)) es (expr_of (rust_call.Call f c.args.args))) (some_injective h)
+    let made = c.in_ok-new-in-Function.field-0 in
+    let e : expr_of (rust_call.Call f made) ≡ apply f (gathered es) = ap (λ l. expr_of (rust_call.Call f l)) c.in_ok-new-in-Function.ensures ∙ at_call f c.args.args in
+    subst (λ (m : rust_meaning.Meaning). Applies (meaning_of m ts) t es (expr_of (rust_call.Call f made))) (sym c.in-Function.is)
+    (λ want h. subst (Makes want (named_function f ts (ty_of c.in-Function.gives)) es (expr_of (rust_call.Call f made))) (some_injective h)
     (subst (λ x. Makes want (named_function f ts (ty_of c.in-Function.gives)) es x (ty_of c.in-Function.gives)) (sym e) (function_made want f ts (ty_of c.in-Function.gives) es)))
 
 pub returns-in-Test : goal.returns-in-Test

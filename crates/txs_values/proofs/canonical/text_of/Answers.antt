@@ -9,5 +9,5 @@ pub returns-clause-spelling : goal.returns-clause-spelling
 returns-clause-spelling c ty h =
     let table = c.args.table.now in
     let value = value_of c.args.value.now in
-    let same : c.from_string.result ≡ text_of table value = c.from_string.ensures ∙ (c.in_ok-write_value.ensures ∙ ap (λ (q : List ℕ). q ++ text_of table value) c.new-out.ensures.bytes) in
+    let same : c.in_ok-text.text ≡ text_of table value = c.in_ok-text.ensures ∙ (c.in_ok-write_value.ensures ∙ ap (λ (q : List ℕ). q ++ text_of table value) c.new-out.ensures.bytes) in
     subst (λ (q : List ℕ). IsSpelling table ty value q) (sym same) (text-spelling table ty value h)
