@@ -1,4 +1,4 @@
-ghost use Rattle.std.specs.Prelude.{◌≡◌, IfOk, IfErr, []};
+ghost use Rattle.std.specs.Prelude.{◌≡◌, IfOk, IfErr, Some, []};
 ghost use Rattle.txs_values.specs.Value.{Ty as TheType};
 ghost use Rattle.txs_terms.specs.Typed.{Of};
 ghost use Rattle.txs_terms.specs.Defs.{signatures_of};
@@ -94,6 +94,7 @@ pub fn type_query(
     ensures clean { IfOk result (λ e. (o : Offence) → QueryOffends (definitions_of defs.now) decls.now (want_of want) tree.now o → ⊥) }
     ensures typed { IfOk result (λ e. (t : TheType) → QueryMeans (definitions_of defs.now) decls.now (want_of want) tree.now (expr_of e) t
         → Of defs.now.0 (signatures_of (definitions_of defs.now)) (declared_types (definitions_of defs.now) decls.now) [] (expr_of e) t) }
+    ensures wanted { IfOk result (λ e. (s t : TheType) → want_of want ≡ Some s → QueryMeans (definitions_of defs.now) decls.now (want_of want) tree.now (expr_of e) t → t ≡ s) }
     ensures safe { IfOk result (λ e. (t : TheType) → QueryMeans (definitions_of defs.now) decls.now (want_of want) tree.now (expr_of e) t
         → IsSafe (definitions_of defs.now) (declared_types (definitions_of defs.now) decls.now) (expr_of e) t) }
     ensures offends { IfErr result (λ f. Told f (QueryOffends (definitions_of defs.now) decls.now (want_of want) tree.now)) }

@@ -21,7 +21,7 @@ use Rattle.txs_types.specs.inner.Told.{Finds}
 use Rattle.txs_types.specs.inner.View.{Judges}
 use Rattle.txs_types.specs.inner.Queries.{InDeclarations, Decided}
 use Rattle.txs_types.proofs.trees.NotBoth.{not_both}
-use Rattle.txs_types.proofs.trees.WellTyped.{elaborated_is_typed}
+use Rattle.txs_types.proofs.trees.WellTyped.{elaborated_is_typed, elaborated_is_wanted}
 use Rattle.txs_types.proofs.trees.Safe.{typed_is_safe}
 use Rattle.txs_types.proofs.files.Tables.{all_defined, not_true, known_variables}
 use Rattle.txs_types.proofs.judging.Told.{Either, told_same, told_left, told_right, told_either, none_of_both}
@@ -116,6 +116,19 @@ query_typed d list want a None (Ok x) r ok need none j e =
 query_typed d list want a None (Err f) r ok need none j e = subst (λ r. IfOk r (TypedQuery d list want a)) (sym e) tt
 query_typed d list want a (Some f) (Ok x) r ok need h j e = subst (λ r. IfOk r (TypedQuery d list want a)) (sym e) tt
 query_typed d list want a (Some f) (Err g) r ok need h j e = subst (λ r. IfOk r (TypedQuery d list want a)) (sym e.1) tt
+
+abbrev WantedQuery : Definitions → DeclList → Option Ty → Ast → rust_expr.Expr → Type 0
+WantedQuery d list want a e = (s t : Ty) → want ≡ Some s → Elaborates (query_scope d list) want a (expr_of e) t → t ≡ s
+
+pub query_wanted : (d : Definitions) (list : DeclList) (want : Option Ty) (a : Ast) (told : Option TypeFault) (typed : Result rust_typed.Typed TypeFault) (r : Result rust_expr.Expr TypeFault)
+    → AreDefined d → IsNeed d.table want → Finds told (InDeclarations (names_of d.table) list) → Judges (query_scope d list) want a typed → Decided told typed r
+    → IfOk r (WantedQuery d list want a)
+query_wanted d list want a None (Ok x) r ok need none j e =
+    subst (λ r. IfOk r (WantedQuery d list want a)) (sym e)
+    (λ s t w h. elaborated_is_wanted d (variables_of (names_of d.table) list) want a (expr_of x.expr) t (has_types d ok) (declared_types d list none) need j.1 h s w)
+query_wanted d list want a None (Err f) r ok need none j e = subst (λ r. IfOk r (WantedQuery d list want a)) (sym e) tt
+query_wanted d list want a (Some f) (Ok x) r ok need h j e = subst (λ r. IfOk r (WantedQuery d list want a)) (sym e) tt
+query_wanted d list want a (Some f) (Err g) r ok need h j e = subst (λ r. IfOk r (WantedQuery d list want a)) (sym e.1) tt
 
 abbrev SafeQuery : Definitions → DeclList → Option Ty → Ast → rust_expr.Expr → Type 0
 SafeQuery d list want a e =

@@ -11,8 +11,8 @@ use Rattle.txs_syntax.specs.declared.ast.Name.{Name}
 use Rattle.txs_syntax.specs.declared.ast.Ast.{Ast}
 use Rattle.txs_syntax.specs.declared.ast.Ast.TheVariants as tree
 use Rattle.txs_syntax.specs.declared.ast.Ast.TheFolds.{fold-Ast}
-use Rattle.txs_types.specs.Names.{Variable, Scope, Meaning, named_value, named_constant, named_function, named_constructor, named_test, named_selector, named_not, named_to_string, named_from_string, named_len, named_at, IsUnknown, inside, last_of, global_of, alone, global_alone, slot_or_global, needed, takes, called, meaning}
-use Rattle.txs_types.proofs.Laws.{ElaboratedIsTyped}
+use Rattle.txs_types.specs.Names.{Variable, Scope, Meaning, named_value, named_constant, named_function, named_constructor, named_test, named_selector, named_not, named_to_string, named_from_string, named_len, named_at, IsUnknown, scope_over, inside, last_of, global_of, alone, global_alone, slot_or_global, needed, takes, called, meaning}
+use Rattle.txs_types.proofs.Laws.{ElaboratedIsTyped, HasTypes}
 use Rattle.txs_types.specs.Files.{IsNeed}
 use Rattle.txs_types.specs.Elaborates.{Suits, Operator, or_operator, and_operator, less_operator, at_most_operator, more_operator, at_least_operator, join_operator, plus_operator, minus_operator, times_operator, divide_operator, remainder_operator, Comparison, equal_comparison, different_comparison, Makes, function_made, value_made, constructor_made, test_made, selector_made, not_made, to_string_made, from_string_made, len_made, at_made, Elaborates, number, quoted, name, call, negated, operated, compared, compared_back, grouped, chosen, chosen_freely, bound, ElaboratesEach, nothing, one_more, all_true, ints_step, HasInts}
 use Rattle.txs_types.proofs.trees.Folds.{fold_number, fold_call, fold_negate, fold_binary, fold_group, fold_if, fold_let}
@@ -318,3 +318,10 @@ mutual
 pub elaborated_is_typed : ElaboratedIsTyped
 elaborated_is_typed d variables want a e t ok types need h derived =
     (typed d derived (record { types = refl; globals = good_globals d variables ok; slots = types; locals = tt }) need h).0.0
+
+-- and of the needed type, if there is one
+pub elaborated_is_wanted : (d : Definitions) (variables : List Variable) (want : Option Ty) (tree : Ast) (e : Expr) (t : Ty)
+    → HasTypes d → AreTypes d.table (field_types variables) → IsNeed d.table want → HasInts tree
+    → Elaborates (scope_over d variables) want tree e t → (s : Ty) → want ≡ Some s → t ≡ s
+elaborated_is_wanted d variables want a e t ok types need h derived s wanted =
+    sym (subst (λ w. Exact w t) wanted (typed d derived (record { types = refl; globals = good_globals d variables ok; slots = types; locals = tt }) need h).1)
