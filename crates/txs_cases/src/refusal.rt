@@ -1,7 +1,7 @@
 use std::alloc::{AllocError, AllocFailed, Global};
 use std::fmt::Write;
 use txs_case::CaseFault;
-use txs_drive::LoadFault;
+use txs_words::LoadFault;
 use txs_eval::EvalFault;
 use txs_lexer::LexFault;
 use txs_parse_expr::ParseFault;

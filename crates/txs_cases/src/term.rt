@@ -1,7 +1,7 @@
 use sqlite_items::Items;
 use std::alloc::Global;
 use std::fmt::Write;
-use txs_drive::Model;
+use txs_words::Model;
 use txs_terms::{Expr, Offer, Position, Term, Top};
 use txs_values::{NoMemory, Value};
 
