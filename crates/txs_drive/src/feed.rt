@@ -9,8 +9,8 @@ ghost use Rattle.txs_drive.specs.inner.CarriedOut.{LinesCarriedOut, BytesCarried
 ghost use Rattle.txs_drive.specs.Served.{last_part, end};
 ghost use Rattle.txs_drive.specs.inner.Stopped.{Stopped, StoppedInBytes, StoppedInCommands, Tracks, ends_in};
 
-use crate::driver::carry_out;
 use crate::Stop;
+use crate::driver::carry_out;
 use std::alloc::Global;
 use txs_outside::{Got, Sink, Source, Sut};
 use txs_session::Session;
