@@ -11,9 +11,9 @@ use Rattle.txs_session.specs.declared.answer.Answer.TheVariants as answer
 use Rattle.txs_words.specs.declared.model.Model.{Model}
 use Rattle.txs_session.specs.Lines.{sent_line}
 use Rattle.txs_session.specs.Session.{Run, State, dial_told, send_told, Heeds, Judges}
-use Rattle.txs_session.specs.Ready.{ToldBy, HeedsBy, rank}
+use Rattle.txs_session.specs.Ready.{ToldBy, HeedsBy}
 use Rattle.txs_drive.specs.Course.{dials, waits, sends, Leads, stays, dialling, waiting, sending, entry, ends_of}
-use Rattle.txs_drive.specs.inner.CarriedOut.{CallAnswered, WaitAnswered}
+use Rattle.txs_drive.specs.inner.CarriedOut.{CallAnswered, WaitAnswered, rank}
 
 not_false : (b : Bool) → (b ≡ false → ⊥) → b ≡ true
 not_false true h = refl

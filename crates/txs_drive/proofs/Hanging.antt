@@ -11,8 +11,8 @@ use Rattle.txs_session.specs.declared.note.Seen.TheVariants as seen
 use Rattle.txs_session.specs.declared.answer.Answer.{Answer}
 use Rattle.txs_session.specs.declared.answer.Answer.TheVariants as answer
 use Rattle.txs_session.specs.Commands.{command_of}
-use Rattle.txs_session.specs.Session.{Run, State, at_start, does, Carries, IfGoing, Stimulates, Heeds, Judges, dial_told, send_told, answer_of, done, hanging, dialled_of, hung_run, started}
-use Rattle.txs_drive.specs.Course.{Event, reads, does', dials, waits, sends, Leads, stays, reading, doing, dialling, waiting, sending, asks_nothing, dialled_in, hung_in}
+use Rattle.txs_session.specs.Session.{Run, State, at_start, does, Carries, IfGoing, Stimulates, Heeds, Judges, dial_told, send_told, answer_of, asks_nothing, done, hanging, dialled_of, hung_run, started}
+use Rattle.txs_drive.specs.Course.{Event, reads, does', dials, waits, sends, Leads, stays, reading, doing, dialling, waiting, sending, dialled_in, hung_in}
 use Rattle.txs_drive.specs.Served.{last_of}
 use Rattle.txs_drive.specs.Cut.{IsUnheeded, dialled_by}
 use Rattle.txs_drive.proofs.Counts.{dialled_in-append, hung_in-append, hung_last}

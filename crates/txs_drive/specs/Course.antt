@@ -15,7 +15,7 @@ use Rattle.txs_session.specs.declared.note.Note.{Note}
 use Rattle.txs_session.specs.declared.note.Note.TheVariants as note
 use Rattle.txs_session.specs.Commands.{command_of}
 use Rattle.txs_session.specs.Lines.{line_of, sent_line}
-use Rattle.txs_session.specs.Session.{Run, State, Carries, dial_told, send_told, answer_of, Heeds, is_fail, done}
+use Rattle.txs_session.specs.Session.{Run, State, Carries, dial_told, send_told, answer_of, Heeds, is_fail, asks_nothing, done}
 
 -- a command line is read, a doing that asks nothing is done, or a call on the system is answered
 pub data Event : Type 0 where

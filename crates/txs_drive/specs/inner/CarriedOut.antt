@@ -1,10 +1,11 @@
 -- What the parts of a session did to the objects of the outside.
-use Rattle.std.specs.Prelude.{◌≡◌, ◌≢◌, ℕ, ◌≤◌, ◌<◌, Bool, true, false, List, [], ◌∷◌, ◌++◌, Option, Some, length}
+use Rattle.std.specs.Prelude.{◌≡◌, ◌≢◌, ℕ, ◌+◌, ◌≤◌, ◌<◌, Bool, true, false, List, [], ◌∷◌, ◌++◌, Option, Some, length}
 use Rattle.std.specs.List.{AllByRecursion}
 use Rattle.txs_outside.specs.Causes.{Rose}
 use Rattle.txs_outside.specs.Known.{Grows, Loses, Tells, Adds}
 use Rattle.txs_outside.specs.declared.sut.SutEntry.{SutEntry}
-use Rattle.txs_session.specs.declared.doing.Doing.TheVariants.{Quit}
+use Rattle.txs_session.specs.declared.doing.Doing.{Doing}
+use Rattle.txs_session.specs.declared.doing.Doing.TheVariants.{Say, Dial, Wait, Send, HangUp, Idle, Quit}
 use Rattle.txs_drive.specs.declared.driver.Next.{Next}
 use Rattle.txs_drive.specs.declared.driver.Next.TheVariants as next
 use Rattle.txs_drive.specs.declared.feed.Finish.{Finish}
