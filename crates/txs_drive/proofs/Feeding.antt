@@ -1,12 +1,12 @@
 -- The lines of command bytes.
-use Rattle.std.proofs.Common.{◌≡◌, ◌≢◌, ℕ, Bool, true, false, cond, eqb, eqb-true, List, [], ◌∷◌, ◌++◌, Option, refl, sym, ◌∙◌, ap, append_assoc, append-nil, take, drop, get_or, length, ◌<◌, ◌+◌}
+use Rattle.std.proofs.Common.{◌≡◌, ◌≢◌, ℕ, Bool, true, false, cond, eqb, eqb-true, List, [], ◌∷◌, ◌++◌, Option, refl, sym, subst, ◌∙◌, ap, append_assoc, append-nil, take, drop, get_or, length, ◌<◌, ◌+◌}
 use Rattle.std.proofs.lemmas.List.{take_more, take-append-drop}
 use Rattle.std.specs.List.{AllByRecursion}
 use Rattle.txs_outside.specs.declared.sut.SutEntry.{SutEntry}
 use Rattle.txs_words.specs.declared.model.Model.{Model}
 use Rattle.txs_session.specs.Session.{State}
 use Rattle.txs_drive.specs.Served.{Ending, onto_first, parts, last_part, lines_of_parts, command_lines}
-use Rattle.txs_drive.specs.inner.CarriedOut.{HasNoFeed, joined, CarriedOut, LinesCarriedOut}
+use Rattle.txs_drive.specs.inner.CarriedOut.{HasNoFeed, joined, CarriedOut, LinesCarriedOut, BytesCarriedOut}
 use Rattle.txs_drive.proofs.Courses.{carried_out_then, carried_out_nothing}
 
 pub all-append : {X : Type 0} (P : X → Type 0) (xs ys : List X) → AllByRecursion P xs → AllByRecursion P ys → AllByRecursion P (xs ++ ys)
@@ -111,3 +111,26 @@ take_step p got i h = append_assoc p (take i got) (get_or got i 0 ∷ []) ∙ ap
 -- all of a read
 pub take_rest : (p got : List ℕ) (i : ℕ) → (p ++ take i got) ++ drop i got ≡ p ++ got
 take_rest p got i = append_assoc p (take i got) (drop i got) ∙ ap (λ (z : List ℕ). p ++ z) (take-append-drop i got)
+
+-- a read up to this byte, which was taken after those before it
+pub read_on : (m : Model) (s t v : State) (k0 k1 k2 : Option (List ℕ)) (u0 u1 u2 : Option (List SutEntry)) (h0 h1 h2 : Option ℕ) (f0 f1 f2 : ℕ) (p got : List ℕ) (i : ℕ) (r w : List ℕ) (q : Bool)
+    → i < length got → LinesCarriedOut m s t k0 k1 u0 u1 h0 h1 f0 f1 (p ++ take i got) r false → LinesCarriedOut m t v k1 k2 u1 u2 h1 h2 f1 f2 (r ++ get_or got i 0 ∷ []) w q
+    → LinesCarriedOut m s v k0 k2 u0 u2 h0 h2 f0 f2 (p ++ take (i + 1) got) w q
+read_on m s t v k0 k1 k2 u0 u1 u2 h0 h1 h2 f0 f1 f2 p got i r w q h a b =
+    subst (λ (z : List ℕ). LinesCarriedOut m s v k0 k2 u0 u2 h0 h2 f0 f2 z w q) (take_step p got i h)
+    (lines_carried_out_then m s t v k0 k1 k2 u0 u1 u2 h0 h1 h2 f0 f1 f2 (p ++ take i got) (get_or got i 0 ∷ []) r w q a b)
+
+-- a read that ends the session with this byte
+pub read_quits : (m : Model) (s t v : State) (k0 k1 k2 : Option (List ℕ)) (u0 u1 u2 : Option (List SutEntry)) (h0 h1 h2 : Option ℕ) (f0 f1 f2 : ℕ) (p got : List ℕ) (i : ℕ) (r w : List ℕ)
+    → i < length got → LinesCarriedOut m s t k0 k1 u0 u1 h0 h1 f0 f1 (p ++ take i got) r false → LinesCarriedOut m t v k1 k2 u1 u2 h1 h2 f1 f2 (r ++ get_or got i 0 ∷ []) w true
+    → BytesCarriedOut m s v k0 k2 u0 u2 h0 h2 f0 f2 (p ++ got) w true
+read_quits m s t v k0 k1 k2 u0 u1 u2 h0 h1 h2 f0 f1 f2 p got i r w h a b = (
+  w ++ drop (i + 1) got,
+  subst (λ (z : List ℕ). LinesCarriedOut m s v k0 k2 u0 u2 h0 h2 f0 f2 z (w ++ drop (i + 1) got) true) (take_rest p got (i + 1))
+      (lines_carried_out_before m s v k0 k2 u0 u2 h0 h2 f0 f2 (p ++ take (i + 1) got) w (drop (i + 1) got) true (read_on m s t v k0 k1 k2 u0 u1 u2 h0 h1 h2 f0 f1 f2 p got i r w true h a b)),
+  λ e. cc,
+)
+
+-- no byte of a read
+pub read_none : (m : Model) (s : State) (k : Option (List ℕ)) (u : Option (List SutEntry)) (h : Option ℕ) (f : ℕ) (p : List ℕ) → LinesCarriedOut m s s k k u u h h f f (p ++ []) p false
+read_none m s k u h f p = subst (λ (z : List ℕ). LinesCarriedOut m s s k k u u h h f f z p false) (sym (append-nil p)) (no_line_carried_out m s k u h f p)

@@ -1,5 +1,5 @@
 -- Where a session stops, over plain variables.
-use Rattle.std.proofs.Common.{◌≡◌, ◌≤◌, inl, inr, ℕ, Bool, true, false, cond, List, [], ◌∷◌, ◌++◌, Option, None, Some, Result, Ok, Err, OnErr, IfErr, IsErrAnd, refl, arith, append_assoc, append-nil, ap, subst, sym, ◌∙◌}
+use Rattle.std.proofs.Common.{◌≡◌, ◌≤◌, ◌<◌, ◌+◌, inl, inr, ℕ, Bool, true, false, cond, List, [], ◌∷◌, ◌++◌, Option, None, Some, Result, Ok, Err, OnErr, IfErr, IsErrAnd, refl, arith, append_assoc, append-nil, take, drop, get_or, length, ap, subst, sym, ◌∙◌}
 use Rattle.txs_outside.specs.declared.sut.SutEntry.{SutEntry}
 use Rattle.txs_outside.specs.Causes.{Rose-before, Rose-after}
 use Rattle.txs_outside.specs.Known.{Grows, Adds, Grows-none, Grows-then, Adds-none, Adds-then}
@@ -19,7 +19,7 @@ use Rattle.txs_drive.specs.Cut.{Torn, IsUnheeded, dialled_by}
 use Rattle.txs_drive.specs.inner.CarriedOut.{HasNoFeed, joined, CarriedOut, LinesCarriedOut}
 use Rattle.txs_drive.specs.inner.Stopped.{Stopped, StoppedInBytes}
 use Rattle.txs_drive.proofs.Courses.{leads_then, lines_in-append, notes_in-append, text_of-append, hung_after-append, calls_in-append, any_cases, stays_then}
-use Rattle.txs_drive.proofs.Feeding.{all-append, joined-append}
+use Rattle.txs_drive.proofs.Feeding.{all-append, joined-append, take_step, take_rest}
 use Rattle.txs_drive.proofs.Told.{unheeded_undue}
 
 -- ---- answers and failures
@@ -204,3 +204,13 @@ stopped_in_bytes_after x m s t n k0 k1 k2 u0 u1 u2 h0 h1 h2 f0 f1 f2 bytes more 
   each = all-append HasNoFeed a.lines b.lines a.each b.each;
   stopped = stopped_after x m s t n k0 k1 k2 u0 u1 u2 h0 h1 h2 f0 f1 f2 a.lines b.lines a.went b.stopped;
 }
+
+-- in the midst of a read, at this byte
+pub stopped_in_read : (x : Stop) (m : Model) (s t : State) (n : ℕ) (k0 k1 k2 : Option (List ℕ)) (u0 u1 u2 : Option (List SutEntry)) (h0 h1 h2 : Option ℕ) (f0 f1 f2 : ℕ) (p got : List ℕ) (i : ℕ) (pending : List ℕ)
+    → i < length got → LinesCarriedOut m s t k0 k1 u0 u1 h0 h1 f0 f1 (p ++ take i got) pending false → StoppedInBytes x m t n k1 k2 u1 u2 h1 h2 f1 f2 (pending ++ get_or got i 0 ∷ [])
+    → StoppedInBytes x m s n k0 k2 u0 u2 h0 h2 f0 f2 (p ++ got)
+stopped_in_read x m s t n k0 k1 k2 u0 u1 u2 h0 h1 h2 f0 f1 f2 p got i pending h a b =
+    subst (λ (z : List ℕ). StoppedInBytes x m s n k0 k2 u0 u2 h0 h2 f0 f2 z) (take_rest p got (i + 1))
+    (stopped_in_more x m s n k0 k2 u0 u2 h0 h2 f0 f2 (p ++ take (i + 1) got) (drop (i + 1) got)
+    (subst (λ (z : List ℕ). StoppedInBytes x m s n k0 k2 u0 u2 h0 h2 f0 f2 z) (take_step p got i h)
+    (stopped_in_bytes_after x m s t n k0 k1 k2 u0 u1 u2 h0 h1 h2 f0 f1 f2 (p ++ take i got) (get_or got i 0 ∷ []) pending a b)))
