@@ -9,9 +9,9 @@ use sqlite_items::Items;
 use std::alloc::Global;
 use std::fmt::Write;
 use txs_case::push_quoted;
-use txs_drive::{Model, run_load};
 use txs_terms::{Action, Term, after_action, after_quiescence, first};
 use txs_values::read_int;
+use txs_words::{Model, run_load};
 
 /// The number of the output channel.
 const OUT: u32 = 1;

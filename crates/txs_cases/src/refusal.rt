@@ -1,12 +1,12 @@
 use std::alloc::{AllocError, AllocFailed, Global};
 use std::fmt::Write;
 use txs_case::CaseFault;
-use txs_drive::LoadFault;
 use txs_eval::EvalFault;
 use txs_lexer::LexFault;
 use txs_parse_expr::ParseFault;
 use txs_types::TypeFault;
 use txs_values::{NoMemory, ReadValueFault};
+use txs_words::LoadFault;
 
 /// Why a call has no other answer.
 #[derive(Clone, Copy, Drop)]

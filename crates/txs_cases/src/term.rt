@@ -1,9 +1,9 @@
 use sqlite_items::Items;
 use std::alloc::Global;
 use std::fmt::Write;
-use txs_drive::Model;
 use txs_terms::{Expr, Offer, Position, Term, Top};
 use txs_values::{NoMemory, Value};
+use txs_words::Model;
 
 /// What is still to be written.
 #[derive(Drop)]

@@ -6,8 +6,8 @@ use Rattle.txs_outside.specs.Causes.{Rose}
 use Rattle.txs_outside.specs.Known.{Grows, Loses, Tells, Adds, Grows-then, Adds-then}
 use Rattle.txs_drive.specs.declared.driver.Stop.{Stop}
 use Rattle.txs_drive.specs.declared.driver.Stop.TheVariants as stop
-use Rattle.txs_drive.specs.declared.model.Model.{Model}
-use Rattle.txs_drive.specs.Session.{State, at_start, dialled_of}
+use Rattle.txs_words.specs.declared.model.Model.{Model}
+use Rattle.txs_session.specs.Session.{State, at_start, dialled_of}
 use Rattle.txs_drive.specs.Course.{lines_in, notes_in, text_of, hung_after, calls_in, sent_in, told_in, due_in}
 use Rattle.txs_drive.specs.Served.{Ending, open', end, command_lines, last_part, last_of}
 use Rattle.txs_drive.specs.Cut.{Cut, by_sink, by_memory, CutShort, Torn, IsTail, IsTold, no_memory, dialled_by}
@@ -20,7 +20,7 @@ use Rattle.txs_drive.proofs.Talking.{Talked}
 use Rattle.txs_drive.proofs.Told.{sent_told, all_told}
 use Rattle.txs_drive.proofs.Noted.{link_failed}
 use Rattle.txs_drive.proofs.Hanging.{hung_once_cut}
-use Rattle.txs_drive.proofs.Stops.{stopped_here, went_stopped, took_stopped}
+use Rattle.txs_drive.proofs.Stops.{stopped_here, stopped_after, stopped_in_bytes_after}
 
 lines_read : (e : Ending) (bytes rest : List ℕ) (lines : List (List ℕ)) → bytes ≡ joined lines ++ rest → AllByRecursion HasNoFeed lines → command_lines bytes e ≡ lines ++ command_lines rest e
 lines_read e bytes rest lines split each = ap (λ (b : List ℕ). command_lines b e) split ∙ commands_joined e lines rest each
@@ -43,7 +43,7 @@ broke_read m t d g0 g1 g2 l0 l1 l2 at_end k0 k1 u0 u1 h0 h1 f0 f1 n pending byte
   most = omega (arith, length-append x.given bytes, x.count, most);
   ended = inl refl;
   read = lines_read open' x.given pending x.took.lines x.took.split x.took.each ∙ sym (append-nil (x.took.lines ++ command_lines pending open'));
-  stopped = went_stopped stop.NoMemory m at_start t d k0 k1 k1 u0 u1 u1 h0 h1 h1 f0 f1 f1 x.took.lines (command_lines pending open') x.took.went (stopped_here m t d k1 u1 h1 f1 (command_lines pending open') (ap due_in z) e);
+  stopped = stopped_after stop.NoMemory m at_start t d k0 k1 k1 u0 u1 u1 h0 h1 h1 f0 f1 f1 x.took.lines (command_lines pending open') x.took.went (stopped_here m t d k1 u1 h1 f1 (command_lines pending open') (ap due_in z) e);
 }
 
 -- in the midst of the bytes of a read
@@ -51,7 +51,7 @@ pub broke_bytes : (y : Stop) (m : Model) (t : State) (d : ℕ) (g0 g1 g2 l0 l1 l
     → Talked m t g0 g1 l0 l1 k0 k1 u0 u1 h0 h1 f0 f1 n pending → Grows g1 g2 got → Loses l1 l2 got → n + length got ≤ 16777216 → StoppedInBytes y m t d k1 k2 u1 u2 h1 h2 f1 f2 (pending ++ got)
     → StoppedInCommands y m d g0 g2 l0 l2 at_end k0 k2 u0 u2 h0 h2 f0 f2
 broke_bytes y m t d g0 g1 g2 l0 l1 l2 at_end k0 k1 k2 u0 u1 u2 h0 h1 h2 f0 f1 f2 n pending got x g lo within s =
-    let all = took_stopped y m at_start t d k0 k1 k2 u0 u1 u2 h0 h1 h2 f0 f1 f2 x.given got pending x.took s in
+    let all = stopped_in_bytes_after y m at_start t d k0 k1 k2 u0 u1 u2 h0 h1 h2 f0 f1 f2 x.given got pending x.took s in
     record {
       given = x.given ++ got;
       commands = x.given ++ got;
@@ -91,7 +91,7 @@ broke_last y m t d g0 g1 g2 l0 l1 l2 at_end k0 k1 k2 u0 u1 u2 h0 h1 h2 f0 f1 f2 
       ∙ (lines_read end x.given pending x.took.lines x.took.split x.took.each
       ∙ (ap (λ (l : List (List ℕ)). x.took.lines ++ l) (commands_part end pending nf)
       ∙ (ap (λ (z : List ℕ). x.took.lines ++ last_part end z) (sym e) ∙ sym (append-nil (x.took.lines ++ last_part end line)))));
-  stopped = went_stopped y m at_start t d k0 k1 k2 u0 u1 u2 h0 h1 h2 f0 f1 f2 x.took.lines (last_part end line) x.took.went s;
+  stopped = stopped_after y m at_start t d k0 k1 k2 u0 u1 u2 h0 h1 h2 f0 f1 f2 x.took.lines (last_part end line) x.took.went s;
 }
 
 -- ---- the session

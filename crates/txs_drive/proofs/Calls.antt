@@ -4,16 +4,16 @@ use Rattle.txs_outside.specs.declared.sut.SutEntry.{SutEntry}
 use Rattle.txs_outside.specs.declared.sut.SutCall.TheVariants as call
 use Rattle.txs_outside.specs.Causes.{Rose}
 use Rattle.txs_outside.specs.Known.{Adds}
-use Rattle.txs_drive.specs.declared.doing.Doing.TheVariants.{Dial, Wait, Send, HangUp, Idle}
-use Rattle.txs_drive.specs.declared.note.Seen.{Seen}
-use Rattle.txs_drive.specs.declared.answer.Answer.{Answer}
-use Rattle.txs_drive.specs.declared.answer.Answer.TheVariants as answer
-use Rattle.txs_drive.specs.declared.model.Model.{Model}
-use Rattle.txs_drive.specs.Lines.{sent_line}
-use Rattle.txs_drive.specs.Session.{Run, State, dial_told, send_told, Heeds, Judges}
-use Rattle.txs_drive.specs.inner.Ready.{ToldBy, HeedsBy, rank}
+use Rattle.txs_session.specs.declared.doing.Doing.TheVariants.{Dial, Wait, Send, HangUp, Idle}
+use Rattle.txs_session.specs.declared.note.Seen.{Seen}
+use Rattle.txs_session.specs.declared.answer.Answer.{Answer}
+use Rattle.txs_session.specs.declared.answer.Answer.TheVariants as answer
+use Rattle.txs_words.specs.declared.model.Model.{Model}
+use Rattle.txs_session.specs.Lines.{sent_line}
+use Rattle.txs_session.specs.Session.{Run, State, dial_told, send_told, Heeds, Judges}
+use Rattle.txs_session.specs.Ready.{ToldBy, HeedsBy}
 use Rattle.txs_drive.specs.Course.{dials, waits, sends, Leads, stays, dialling, waiting, sending, entry, ends_of}
-use Rattle.txs_drive.specs.inner.CarriedOut.{CallAnswered, WaitAnswered}
+use Rattle.txs_drive.specs.inner.CarriedOut.{CallAnswered, WaitAnswered, rank}
 
 not_false : (b : Bool) → (b ≡ false → ⊥) → b ≡ true
 not_false true h = refl

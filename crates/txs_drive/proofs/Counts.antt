@@ -1,6 +1,6 @@
 -- How many dials that succeed, and how many hang-ups, are among events.
 use Rattle.std.proofs.Common.{◌≡◌, ◌≤◌, ◌+◌, ℕ, zero, suc, true, false, List, [], ◌∷◌, ◌++◌, refl, arith}
-use Rattle.txs_drive.specs.declared.doing.Doing.TheVariants.{Say, Dial, Wait, Send, HangUp, Idle, Quit}
+use Rattle.txs_session.specs.declared.doing.Doing.TheVariants.{Say, Dial, Wait, Send, HangUp, Idle, Quit}
 use Rattle.txs_drive.specs.Course.{Event, reads, does', dials, waits, sends, dialled_in, hung_in}
 use Rattle.txs_drive.specs.Served.{last_of}
 

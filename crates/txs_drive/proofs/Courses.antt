@@ -3,13 +3,13 @@ use Rattle.std.proofs.Common.{◌≡◌, ◌⊎◌, inl, inr, ℕ, Bool, true, f
 use Rattle.txs_outside.specs.declared.sut.SutEntry.{SutEntry}
 use Rattle.txs_outside.specs.Causes.{Rose-before, Rose-after}
 use Rattle.txs_outside.specs.Known.{Grows, Adds, Grows-none, Grows-then, Adds-none, Adds-then}
-use Rattle.txs_drive.specs.declared.doing.Doing.{Doing}
-use Rattle.txs_drive.specs.declared.doing.Doing.TheVariants.{Say, Dial, Wait, Send, HangUp, Idle, Quit}
-use Rattle.txs_drive.specs.declared.model.Model.{Model}
-use Rattle.txs_drive.specs.declared.note.Note.{Note}
-use Rattle.txs_drive.specs.Commands.{command_of}
-use Rattle.txs_drive.specs.Lines.{line_of}
-use Rattle.txs_drive.specs.Session.{State, Carries, done}
+use Rattle.txs_session.specs.declared.doing.Doing.{Doing}
+use Rattle.txs_session.specs.declared.doing.Doing.TheVariants.{Say, Dial, Wait, Send, HangUp, Idle, Quit}
+use Rattle.txs_words.specs.declared.model.Model.{Model}
+use Rattle.txs_session.specs.declared.note.Note.{Note}
+use Rattle.txs_session.specs.Commands.{command_of}
+use Rattle.txs_session.specs.Lines.{line_of}
+use Rattle.txs_session.specs.Session.{State, Carries, done}
 use Rattle.txs_drive.specs.Course.{Event, reads, does', dials, waits, sends, Leads, stays, reading, doing, dialling, waiting, sending, lines_in, notes_of, notes_in, text_of, has_quit, hung_by, hung_after, calls_in, AnyFailed}
 use Rattle.txs_drive.specs.inner.CarriedOut.{CarriedOut, CallAnswered, IsLeft}
 
@@ -90,9 +90,9 @@ left_behind : (a b : List Event) → has_quit a ≡ false → IsLeft b → IsLef
 left_behind a b n h = (a ++ h.0, ap (λ (q : List Event). a ++ q) h.1 ∙ sym (append_assoc a h.0 (does' Quit ∷ [])), stays_then a h.0 n h.2)
 
 -- one stretch and then another
-pub went_then : (m : Model) (s t v : State) (k0 k1 k2 : Option (List ℕ)) (u0 u1 u2 : Option (List SutEntry)) (h0 h1 h2 : Option ℕ) (f0 f1 f2 : ℕ) (ls ms : List (List ℕ)) (q : Bool)
+pub carried_out_then : (m : Model) (s t v : State) (k0 k1 k2 : Option (List ℕ)) (u0 u1 u2 : Option (List SutEntry)) (h0 h1 h2 : Option ℕ) (f0 f1 f2 : ℕ) (ls ms : List (List ℕ)) (q : Bool)
     → CarriedOut m s t k0 k1 u0 u1 h0 h1 f0 f1 ls false → CarriedOut m t v k1 k2 u1 u2 h1 h2 f1 f2 ms q → CarriedOut m s v k0 k2 u0 u2 h0 h2 f0 f2 (ls ++ ms) q
-went_then m s t v k0 k1 k2 u0 u1 u2 h0 h1 h2 f0 f1 f2 ls ms q a b = record {
+carried_out_then m s t v k0 k1 k2 u0 u1 u2 h0 h1 h2 f0 f1 f2 ls ms q a b = record {
   events = a.events ++ b.events;
   leads = leads_then m s t v a.events b.events a.leads b.leads;
   read = lines_in-append a.events b.events ∙ (ap (λ (z : List (List ℕ)). z ++ lines_in b.events) a.read ∙ ap (λ (z : List (List ℕ)). ls ++ z) b.read);
@@ -109,8 +109,8 @@ went_then m s t v k0 k1 k2 u0 u1 u2 h0 h1 h2 f0 f1 f2 ls ms q a b = record {
 }
 
 -- a line was read
-pub went_line : (m : Model) (s t : State) (k : Option (List ℕ)) (u : Option (List SutEntry)) (h : Option ℕ) (f : ℕ) (line : List ℕ) → s.todo ≡ [] → Carries m (command_of m line) s t → CarriedOut m s t k k u u h h f f (line ∷ []) false
-went_line m s t k u h f line e c = record {
+pub carried_out_line : (m : Model) (s t : State) (k : Option (List ℕ)) (u : Option (List SutEntry)) (h : Option ℕ) (f : ℕ) (line : List ℕ) → s.todo ≡ [] → Carries m (command_of m line) s t → CarriedOut m s t k k u u h h f f (line ∷ []) false
+carried_out_line m s t k u h f line e c = record {
   events = reads line ∷ [];
   leads = reading line e c stays;
   read = refl;
@@ -125,8 +125,8 @@ went_line m s t k u h f line e c = record {
 }
 
 -- the system was called
-pub went_called : (m : Model) (s t : State) (k : Option (List ℕ)) (u0 u1 : Option (List SutEntry)) (h0 h1 : Option ℕ) (f0 f1 : ℕ) → CallAnswered m s t u0 u1 h0 h1 f0 f1 → CarriedOut m s t k k u0 u1 h0 h1 f0 f1 [] false
-went_called m s t k u0 u1 h0 h1 f0 f1 c = record {
+pub carried_out_call : (m : Model) (s t : State) (k : Option (List ℕ)) (u0 u1 : Option (List SutEntry)) (h0 h1 : Option ℕ) (f0 f1 : ℕ) → CallAnswered m s t u0 u1 h0 h1 f0 f1 → CarriedOut m s t k k u0 u1 h0 h1 f0 f1 [] false
+carried_out_call m s t k u0 u1 h0 h1 f0 f1 c = record {
   events = c.event ∷ [];
   leads = c.leads;
   read = c.read;
@@ -141,9 +141,9 @@ went_called m s t k u0 u1 h0 h1 f0 f1 c = record {
 }
 
 -- a note was written
-pub went_said : (m : Model) (s t : State) (k0 k1 : Option (List ℕ)) (u : Option (List SutEntry)) (h : Option ℕ) (f : ℕ) (n : Note) (more : List Doing) (text : List ℕ)
+pub carried_out_say : (m : Model) (s t : State) (k0 k1 : Option (List ℕ)) (u : Option (List SutEntry)) (h : Option ℕ) (f : ℕ) (n : Note) (more : List Doing) (text : List ℕ)
     → s.todo ≡ Say n ∷ more → t ≡ done (Say n) more s → text ≡ line_of m n → Grows k0 k1 text → CarriedOut m s t k0 k1 u u h h f f [] false
-went_said m s t k0 k1 u h f n more text e d l w = record {
+carried_out_say m s t k0 k1 u h f n more text e d l w = record {
   events = does' (Say n) ∷ [];
   leads = doing (Say n) more e refl (subst (λ (x : State). Leads m (done (Say n) more s) [] x) (sym d) stays);
   read = refl;
@@ -158,9 +158,9 @@ went_said m s t k0 k1 u h f n more text e d l w = record {
 }
 
 -- the ends were hung up
-pub went_hung : (m : Model) (s t : State) (k : Option (List ℕ)) (u0 u1 : Option (List SutEntry)) (h0 h1 : Option ℕ) (f0 f1 : ℕ) (more : List Doing)
+pub carried_out_hang_up : (m : Model) (s t : State) (k : Option (List ℕ)) (u0 u1 : Option (List SutEntry)) (h0 h1 : Option ℕ) (f0 f1 : ℕ) (more : List Doing)
     → s.todo ≡ HangUp ∷ more → t ≡ done HangUp more s → Adds u0 u1 [] → h1 ≡ hung_by HangUp h0 → f1 ≡ f0 → CarriedOut m s t k k u0 u1 h0 h1 f0 f1 [] false
-went_hung m s t k u0 u1 h0 h1 f0 f1 more e d a h f = record {
+carried_out_hang_up m s t k u0 u1 h0 h1 f0 f1 more e d a h f = record {
   events = does' HangUp ∷ [];
   leads = doing HangUp more e refl (subst (λ (x : State). Leads m (done HangUp more s) [] x) (sym d) stays);
   read = refl;
@@ -175,9 +175,9 @@ went_hung m s t k u0 u1 h0 h1 f0 f1 more e d a h f = record {
 }
 
 -- a command was carried out
-pub went_idle : (m : Model) (s t : State) (k : Option (List ℕ)) (u : Option (List SutEntry)) (h : Option ℕ) (f : ℕ) (more : List Doing)
+pub carried_out_idle : (m : Model) (s t : State) (k : Option (List ℕ)) (u : Option (List SutEntry)) (h : Option ℕ) (f : ℕ) (more : List Doing)
     → s.todo ≡ Idle ∷ more → t ≡ done Idle more s → CarriedOut m s t k k u u h h f f [] false
-went_idle m s t k u h f more e d = record {
+carried_out_idle m s t k u h f more e d = record {
   events = does' Idle ∷ [];
   leads = doing Idle more e refl (subst (λ (x : State). Leads m (done Idle more s) [] x) (sym d) stays);
   read = refl;
@@ -192,9 +192,9 @@ went_idle m s t k u h f more e d = record {
 }
 
 -- the session ended
-pub went_quit : (m : Model) (s t : State) (k : Option (List ℕ)) (u : Option (List SutEntry)) (h : Option ℕ) (f : ℕ) (more : List Doing)
+pub carried_out_quit : (m : Model) (s t : State) (k : Option (List ℕ)) (u : Option (List SutEntry)) (h : Option ℕ) (f : ℕ) (more : List Doing)
     → s.todo ≡ Quit ∷ more → t ≡ done Quit more s → CarriedOut m s t k k u u h h f f [] true
-went_quit m s t k u h f more e d = record {
+carried_out_quit m s t k u h f more e d = record {
   events = does' Quit ∷ [];
   leads = doing Quit more e refl (subst (λ (x : State). Leads m (done Quit more s) [] x) (sym d) stays);
   read = refl;
@@ -209,8 +209,8 @@ went_quit m s t k u h f more e d = record {
 }
 
 -- nothing happened
-pub went_nowhere : (m : Model) (s : State) (k : Option (List ℕ)) (u : Option (List SutEntry)) (h : Option ℕ) (f : ℕ) → CarriedOut m s s k k u u h h f f [] false
-went_nowhere m s k u h f = record {
+pub carried_out_nothing : (m : Model) (s : State) (k : Option (List ℕ)) (u : Option (List SutEntry)) (h : Option ℕ) (f : ℕ) → CarriedOut m s s k k u u h h f f [] false
+carried_out_nothing m s k u h f = record {
   events = [];
   leads = stays;
   read = refl;

@@ -1,13 +1,13 @@
 -- The lines of command bytes.
-use Rattle.std.proofs.Common.{◌≡◌, ◌≢◌, ℕ, Bool, true, false, cond, eqb, eqb-true, List, [], ◌∷◌, ◌++◌, Option, refl, sym, ◌∙◌, ap, append_assoc, append-nil, take, drop, get_or, length, ◌<◌, ◌+◌}
+use Rattle.std.proofs.Common.{◌≡◌, ◌≢◌, ℕ, Bool, true, false, cond, eqb, eqb-true, List, [], ◌∷◌, ◌++◌, Option, refl, sym, subst, ◌∙◌, ap, append_assoc, append-nil, take, drop, get_or, length, ◌<◌, ◌+◌}
 use Rattle.std.proofs.lemmas.List.{take_more, take-append-drop}
 use Rattle.std.specs.List.{AllByRecursion}
 use Rattle.txs_outside.specs.declared.sut.SutEntry.{SutEntry}
-use Rattle.txs_drive.specs.declared.model.Model.{Model}
-use Rattle.txs_drive.specs.Session.{State}
+use Rattle.txs_words.specs.declared.model.Model.{Model}
+use Rattle.txs_session.specs.Session.{State}
 use Rattle.txs_drive.specs.Served.{Ending, onto_first, parts, last_part, lines_of_parts, command_lines}
-use Rattle.txs_drive.specs.inner.CarriedOut.{HasNoFeed, joined, CarriedOut, LinesCarriedOut}
-use Rattle.txs_drive.proofs.Courses.{went_then, went_nowhere}
+use Rattle.txs_drive.specs.inner.CarriedOut.{HasNoFeed, joined, CarriedOut, LinesCarriedOut, BytesCarriedOut}
+use Rattle.txs_drive.proofs.Courses.{carried_out_then, carried_out_nothing}
 
 pub all-append : {X : Type 0} (P : X → Type 0) (xs ys : List X) → AllByRecursion P xs → AllByRecursion P ys → AllByRecursion P (xs ++ ys)
 all-append P [] ys h k = k
@@ -70,13 +70,13 @@ commands_part e rest h = ap (lines_of_parts e) (parts_part rest h)
 -- ---- what was taken
 
 -- nothing but a part of a line
-pub took_part : (m : Model) (s : State) (k : Option (List ℕ)) (u : Option (List SutEntry)) (h : Option ℕ) (f : ℕ) (bytes : List ℕ) → LinesCarriedOut m s s k k u u h h f f bytes bytes false
-took_part m s k u h f bytes = record { lines = []; split = refl; each = tt; went = went_nowhere m s k u h f }
+pub no_line_carried_out : (m : Model) (s : State) (k : Option (List ℕ)) (u : Option (List SutEntry)) (h : Option ℕ) (f : ℕ) (bytes : List ℕ) → LinesCarriedOut m s s k k u u h h f f bytes bytes false
+no_line_carried_out m s k u h f bytes = record { lines = []; split = refl; each = tt; went = carried_out_nothing m s k u h f }
 
 -- one line
-pub took_line : (m : Model) (s t : State) (k0 k1 : Option (List ℕ)) (u0 u1 : Option (List SutEntry)) (h0 h1 : Option ℕ) (f0 f1 : ℕ) (line rest : List ℕ) (b : ℕ) (q : Bool)
+pub one_line_carried_out : (m : Model) (s t : State) (k0 k1 : Option (List ℕ)) (u0 u1 : Option (List SutEntry)) (h0 h1 : Option ℕ) (f0 f1 : ℕ) (line rest : List ℕ) (b : ℕ) (q : Bool)
     → HasNoFeed line → b ≡ 10 → rest ≡ [] → CarriedOut m s t k0 k1 u0 u1 h0 h1 f0 f1 (line ∷ []) q → LinesCarriedOut m s t k0 k1 u0 u1 h0 h1 f0 f1 (line ++ b ∷ []) rest q
-took_line m s t k0 k1 u0 u1 h0 h1 f0 f1 line rest b q nf e n w = record {
+one_line_carried_out m s t k0 k1 u0 u1 h0 h1 f0 f1 line rest b q nf e n w = record {
   lines = line ∷ [];
   split = ap (λ (c : ℕ). line ++ c ∷ []) e ∙ (sym (append-nil (line ++ 10 ∷ [])) ∙ ap (λ (r : List ℕ). (line ++ 10 ∷ []) ++ r) (sym n));
   each = (nf, tt);
@@ -84,20 +84,20 @@ took_line m s t k0 k1 u0 u1 h0 h1 f0 f1 line rest b q nf e n w = record {
 }
 
 -- one stretch of bytes and then another
-pub took_then : (m : Model) (s t v : State) (k0 k1 k2 : Option (List ℕ)) (u0 u1 u2 : Option (List SutEntry)) (h0 h1 h2 : Option ℕ) (f0 f1 f2 : ℕ) (a b r w : List ℕ) (q : Bool)
+pub lines_carried_out_then : (m : Model) (s t v : State) (k0 k1 k2 : Option (List ℕ)) (u0 u1 u2 : Option (List SutEntry)) (h0 h1 h2 : Option ℕ) (f0 f1 f2 : ℕ) (a b r w : List ℕ) (q : Bool)
     → LinesCarriedOut m s t k0 k1 u0 u1 h0 h1 f0 f1 a r false → LinesCarriedOut m t v k1 k2 u1 u2 h1 h2 f1 f2 (r ++ b) w q → LinesCarriedOut m s v k0 k2 u0 u2 h0 h2 f0 f2 (a ++ b) w q
-took_then m s t v k0 k1 k2 u0 u1 u2 h0 h1 h2 f0 f1 f2 a b r w q x y = record {
+lines_carried_out_then m s t v k0 k1 k2 u0 u1 u2 h0 h1 h2 f0 f1 f2 a b r w q x y = record {
   lines = x.lines ++ y.lines;
   split = ap (λ (z : List ℕ). z ++ b) x.split ∙ (append_assoc (joined x.lines) r b ∙ (ap (λ (z : List ℕ). joined x.lines ++ z) y.split
       ∙ (sym (append_assoc (joined x.lines) (joined y.lines) w) ∙ ap (λ (z : List ℕ). z ++ w) (sym (joined-append x.lines y.lines)))));
   each = all-append HasNoFeed x.lines y.lines x.each y.each;
-  went = went_then m s t v k0 k1 k2 u0 u1 u2 h0 h1 h2 f0 f1 f2 x.lines y.lines q x.went y.went;
+  went = carried_out_then m s t v k0 k1 k2 u0 u1 u2 h0 h1 h2 f0 f1 f2 x.lines y.lines q x.went y.went;
 }
 
 -- what follows stays after
-pub took_more : (m : Model) (s t : State) (k0 k1 : Option (List ℕ)) (u0 u1 : Option (List SutEntry)) (h0 h1 : Option ℕ) (f0 f1 : ℕ) (a r d : List ℕ) (q : Bool)
+pub lines_carried_out_before : (m : Model) (s t : State) (k0 k1 : Option (List ℕ)) (u0 u1 : Option (List SutEntry)) (h0 h1 : Option ℕ) (f0 f1 : ℕ) (a r d : List ℕ) (q : Bool)
     → LinesCarriedOut m s t k0 k1 u0 u1 h0 h1 f0 f1 a r q → LinesCarriedOut m s t k0 k1 u0 u1 h0 h1 f0 f1 (a ++ d) (r ++ d) q
-took_more m s t k0 k1 u0 u1 h0 h1 f0 f1 a r d q x = record {
+lines_carried_out_before m s t k0 k1 u0 u1 h0 h1 f0 f1 a r d q x = record {
   lines = x.lines;
   split = ap (λ (z : List ℕ). z ++ d) x.split ∙ append_assoc (joined x.lines) r d;
   each = x.each;
@@ -111,3 +111,26 @@ take_step p got i h = append_assoc p (take i got) (get_or got i 0 ∷ []) ∙ ap
 -- all of a read
 pub take_rest : (p got : List ℕ) (i : ℕ) → (p ++ take i got) ++ drop i got ≡ p ++ got
 take_rest p got i = append_assoc p (take i got) (drop i got) ∙ ap (λ (z : List ℕ). p ++ z) (take-append-drop i got)
+
+-- a read up to this byte, which was taken after those before it
+pub read_on : (m : Model) (s t v : State) (k0 k1 k2 : Option (List ℕ)) (u0 u1 u2 : Option (List SutEntry)) (h0 h1 h2 : Option ℕ) (f0 f1 f2 : ℕ) (p got : List ℕ) (i : ℕ) (r w : List ℕ) (q : Bool)
+    → i < length got → LinesCarriedOut m s t k0 k1 u0 u1 h0 h1 f0 f1 (p ++ take i got) r false → LinesCarriedOut m t v k1 k2 u1 u2 h1 h2 f1 f2 (r ++ get_or got i 0 ∷ []) w q
+    → LinesCarriedOut m s v k0 k2 u0 u2 h0 h2 f0 f2 (p ++ take (i + 1) got) w q
+read_on m s t v k0 k1 k2 u0 u1 u2 h0 h1 h2 f0 f1 f2 p got i r w q h a b =
+    subst (λ (z : List ℕ). LinesCarriedOut m s v k0 k2 u0 u2 h0 h2 f0 f2 z w q) (take_step p got i h)
+    (lines_carried_out_then m s t v k0 k1 k2 u0 u1 u2 h0 h1 h2 f0 f1 f2 (p ++ take i got) (get_or got i 0 ∷ []) r w q a b)
+
+-- a read that ends the session with this byte
+pub read_quits : (m : Model) (s t v : State) (k0 k1 k2 : Option (List ℕ)) (u0 u1 u2 : Option (List SutEntry)) (h0 h1 h2 : Option ℕ) (f0 f1 f2 : ℕ) (p got : List ℕ) (i : ℕ) (r w : List ℕ)
+    → i < length got → LinesCarriedOut m s t k0 k1 u0 u1 h0 h1 f0 f1 (p ++ take i got) r false → LinesCarriedOut m t v k1 k2 u1 u2 h1 h2 f1 f2 (r ++ get_or got i 0 ∷ []) w true
+    → BytesCarriedOut m s v k0 k2 u0 u2 h0 h2 f0 f2 (p ++ got) w true
+read_quits m s t v k0 k1 k2 u0 u1 u2 h0 h1 h2 f0 f1 f2 p got i r w h a b = (
+  w ++ drop (i + 1) got,
+  subst (λ (z : List ℕ). LinesCarriedOut m s v k0 k2 u0 u2 h0 h2 f0 f2 z (w ++ drop (i + 1) got) true) (take_rest p got (i + 1))
+      (lines_carried_out_before m s v k0 k2 u0 u2 h0 h2 f0 f2 (p ++ take (i + 1) got) w (drop (i + 1) got) true (read_on m s t v k0 k1 k2 u0 u1 u2 h0 h1 h2 f0 f1 f2 p got i r w true h a b)),
+  λ e. cc,
+)
+
+-- no byte of a read
+pub read_none : (m : Model) (s : State) (k : Option (List ℕ)) (u : Option (List SutEntry)) (h : Option ℕ) (f : ℕ) (p : List ℕ) → LinesCarriedOut m s s k k u u h h f f (p ++ []) p false
+read_none m s k u h f p = subst (λ (z : List ℕ). LinesCarriedOut m s s k k u u h h f f z p false) (sym (append-nil p)) (no_line_carried_out m s k u h f p)

@@ -1,18 +1,18 @@
 -- The ends are hung up once for each dial that succeeds, and not else.
 use Rattle.std.proofs.Common.{◌≡◌, ◌≤◌, ◌+◌, inl, inr, ℕ, zero, suc, ℤ, Bool, true, false, List, [], ◌∷◌, ◌++◌, Option, None, Some, refl, ap, sym, ◌∙◌, subst, append-nil, arith}
-use Rattle.txs_drive.specs.declared.model.Model.{Model}
-use Rattle.txs_drive.specs.declared.command.Command.{Command}
-use Rattle.txs_drive.specs.declared.command.Command.TheVariants as command
-use Rattle.txs_drive.specs.declared.doing.Doing.{Doing}
-use Rattle.txs_drive.specs.declared.doing.Doing.TheVariants.{Say, Dial, Wait, Send, HangUp, Idle, Quit}
-use Rattle.txs_drive.specs.declared.note.Note.TheVariants as note
-use Rattle.txs_drive.specs.declared.note.Seen.{Seen}
-use Rattle.txs_drive.specs.declared.note.Seen.TheVariants as seen
-use Rattle.txs_drive.specs.declared.answer.Answer.{Answer}
-use Rattle.txs_drive.specs.declared.answer.Answer.TheVariants as answer
-use Rattle.txs_drive.specs.Commands.{command_of}
-use Rattle.txs_drive.specs.Session.{Run, State, at_start, does, Carries, IfGoing, Stimulates, Heeds, Judges, dial_told, send_told, answer_of, done, hanging, dialled_of, hung_run, started}
-use Rattle.txs_drive.specs.Course.{Event, reads, does', dials, waits, sends, Leads, stays, reading, doing, dialling, waiting, sending, asks_nothing, dialled_in, hung_in}
+use Rattle.txs_words.specs.declared.model.Model.{Model}
+use Rattle.txs_session.specs.declared.command.Command.{Command}
+use Rattle.txs_session.specs.declared.command.Command.TheVariants as command
+use Rattle.txs_session.specs.declared.doing.Doing.{Doing}
+use Rattle.txs_session.specs.declared.doing.Doing.TheVariants.{Say, Dial, Wait, Send, HangUp, Idle, Quit}
+use Rattle.txs_session.specs.declared.note.Note.TheVariants as note
+use Rattle.txs_session.specs.declared.note.Seen.{Seen}
+use Rattle.txs_session.specs.declared.note.Seen.TheVariants as seen
+use Rattle.txs_session.specs.declared.answer.Answer.{Answer}
+use Rattle.txs_session.specs.declared.answer.Answer.TheVariants as answer
+use Rattle.txs_session.specs.Commands.{command_of}
+use Rattle.txs_session.specs.Session.{Run, State, at_start, does, Carries, IfGoing, Stimulates, Heeds, Judges, dial_told, send_told, answer_of, asks_nothing, done, hanging, dialled_of, hung_run, started}
+use Rattle.txs_drive.specs.Course.{Event, reads, does', dials, waits, sends, Leads, stays, reading, doing, dialling, waiting, sending, dialled_in, hung_in}
 use Rattle.txs_drive.specs.Served.{last_of}
 use Rattle.txs_drive.specs.Cut.{IsUnheeded, dialled_by}
 use Rattle.txs_drive.proofs.Counts.{dialled_in-append, hung_in-append, hung_last}

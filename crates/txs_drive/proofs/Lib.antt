@@ -1,14 +1,3 @@
-pub mod Wording
-pub mod Digits
-pub mod Behaviours
-pub mod Readers
-pub mod Apart
-pub mod Texts
-pub mod Parts
-pub mod Files
-pub mod Sets
-pub mod Spelled
-pub mod Sessions
 pub mod Courses
 pub mod Calls
 pub mod Feeding

@@ -2,13 +2,13 @@
 use Rattle.std.proofs.Common.{◌≡◌, inl, inr, ℕ, ℤ, Bool, true, false, List, [], ◌∷◌, ◌++◌, refl, sym, subst}
 use Rattle.txs_outside.specs.declared.sut.Heard.{Heard}
 use Rattle.txs_outside.specs.declared.sut.Heard.TheVariants as heard
-use Rattle.txs_drive.specs.declared.model.Model.{Model}
-use Rattle.txs_drive.specs.declared.doing.Doing.{Doing}
-use Rattle.txs_drive.specs.declared.doing.Doing.TheVariants.{Say, Dial, Wait, Send, HangUp, Idle, Quit}
-use Rattle.txs_drive.specs.declared.note.Note.{Note}
-use Rattle.txs_drive.specs.declared.note.Note.TheVariants as note
-use Rattle.txs_drive.specs.declared.note.Ending.TheVariants.{Link}
-use Rattle.txs_drive.specs.Session.{Run, State, Heeds, dial_told, send_told, answer_of, done}
+use Rattle.txs_words.specs.declared.model.Model.{Model}
+use Rattle.txs_session.specs.declared.doing.Doing.{Doing}
+use Rattle.txs_session.specs.declared.doing.Doing.TheVariants.{Say, Dial, Wait, Send, HangUp, Idle, Quit}
+use Rattle.txs_session.specs.declared.note.Note.{Note}
+use Rattle.txs_session.specs.declared.note.Note.TheVariants as note
+use Rattle.txs_session.specs.declared.note.Ending.TheVariants.{Link}
+use Rattle.txs_session.specs.Session.{Run, State, Heeds, dial_told, send_told, answer_of, done}
 use Rattle.txs_drive.specs.Course.{Event, Leads, stays, reading, doing, dialling, waiting, sending, notes_in, notes_of, IsNoted, AnyFailed}
 use Rattle.txs_drive.specs.Served.{EndsAtRest}
 use Rattle.txs_drive.proofs.Noted.{HasLink}

@@ -2,21 +2,21 @@
 use Rattle.std.proofs.Common.{◌≡◌, ◌⊎◌, ◌+◌, inl, inr, ℕ, ℤ, Bool, true, false, ◌||◌, cond, eqb, nat_lt, List, [], ◌∷◌, ◌++◌, length, Option, None, Some, refl, ap, sym, ◌∙◌, subst}
 use Rattle.txs_outside.specs.declared.sut.Heard.{Heard}
 use Rattle.txs_outside.specs.declared.sut.Heard.TheVariants as heard
-use Rattle.txs_drive.specs.declared.model.Model.{Model}
-use Rattle.txs_drive.specs.declared.command.Command.{Command}
-use Rattle.txs_drive.specs.declared.command.Command.TheVariants as command
-use Rattle.txs_drive.specs.declared.doing.Doing.{Doing}
-use Rattle.txs_drive.specs.declared.doing.Doing.TheVariants.{Say, Dial, Wait, Send, HangUp, Idle, Quit}
-use Rattle.txs_drive.specs.declared.note.Note.{Note}
-use Rattle.txs_drive.specs.declared.note.Note.TheVariants as note
-use Rattle.txs_drive.specs.declared.note.Ending.TheVariants.{Fail, Link, Later}
-use Rattle.txs_drive.specs.declared.note.Seen.{Seen}
-use Rattle.txs_drive.specs.declared.note.Seen.TheVariants as seen
-use Rattle.txs_drive.specs.declared.answer.Answer.{Answer}
-use Rattle.txs_drive.specs.declared.answer.Answer.TheVariants as answer
-use Rattle.txs_drive.specs.Parts.{cut_at}
-use Rattle.txs_drive.specs.Commands.{command_of}
-use Rattle.txs_drive.specs.Session.{Run, State, at_start, Carries, IfGoing, Stimulates, Heeds, Judges, dial_told, send_told, answer_of, number_answer, number_in, seen_note, is_fail, done, hanging, dialled_of}
+use Rattle.txs_words.specs.declared.model.Model.{Model}
+use Rattle.txs_session.specs.declared.command.Command.{Command}
+use Rattle.txs_session.specs.declared.command.Command.TheVariants as command
+use Rattle.txs_session.specs.declared.doing.Doing.{Doing}
+use Rattle.txs_session.specs.declared.doing.Doing.TheVariants.{Say, Dial, Wait, Send, HangUp, Idle, Quit}
+use Rattle.txs_session.specs.declared.note.Note.{Note}
+use Rattle.txs_session.specs.declared.note.Note.TheVariants as note
+use Rattle.txs_session.specs.declared.note.Ending.TheVariants.{Fail, Link, Later}
+use Rattle.txs_session.specs.declared.note.Seen.{Seen}
+use Rattle.txs_session.specs.declared.note.Seen.TheVariants as seen
+use Rattle.txs_session.specs.declared.answer.Answer.{Answer}
+use Rattle.txs_session.specs.declared.answer.Answer.TheVariants as answer
+use Rattle.txs_session.specs.Parts.{cut_at}
+use Rattle.txs_session.specs.Commands.{command_of}
+use Rattle.txs_session.specs.Session.{Run, State, at_start, Carries, IfGoing, Stimulates, Heeds, Judges, dial_told, send_told, answer_of, number_answer, number_in, seen_note, is_fail, done, hanging, dialled_of}
 use Rattle.txs_drive.specs.Course.{Event, Leads, stays, reading, doing, dialling, waiting, sending, notes_in, notes_of, has_fail, IsNoted, AnyFailed}
 
 -- ---- FAIL
@@ -41,7 +41,7 @@ stimulates_flag : (m : Model) (v : ℤ) (s t : State) (q : Run) → Stimulates m
 stimulates_flag m v s t q (inl h) = flag h.1
 stimulates_flag m v s t q (inr h) = flag h.1
 
-started_flag : (m : Model) (r : Option Run) (s t : State) → t ≡ Rattle.txs_drive.specs.Session.started r s → t.has_failed ≡ s.has_failed
+started_flag : (m : Model) (r : Option Run) (s t : State) → t ≡ Rattle.txs_session.specs.Session.started r s → t.has_failed ≡ s.has_failed
 started_flag m None s t h = flag h
 started_flag m (Some q) s t h = flag h
 
@@ -133,7 +133,7 @@ tester_not : HasLink (Say note.Tester ∷ Dial ∷ []) → ⊥
 tester_not (inl e) = cc
 tester_not (inr h) = h
 
-started_not : (r : Option Run) (s t : State) → t ≡ Rattle.txs_drive.specs.Session.started r s → HasLink t.todo → ⊥
+started_not : (r : Option Run) (s t : State) → t ≡ Rattle.txs_session.specs.Session.started r s → HasLink t.todo → ⊥
 started_not None s t h = unlinked h tester_not
 started_not (Some q) s t h = unlinked h refused_not
 

@@ -2,20 +2,20 @@
 use Rattle.std.proofs.Common.{◌≡◌, ◌∷◌, ◌∙◌, [], ℕ, ℤ, Bool, true, false, List, Option, None, Some, sym, ap, subst}
 use Rattle.txs_outside.specs.declared.sut.SutEntry.{SutEntry}
 use Rattle.txs_outside.specs.Known.{Grows}
-use Rattle.txs_drive.specs.declared.doing.Doing.{Doing}
-use Rattle.txs_drive.specs.declared.doing.Doing.TheVariants.{Say, Dial, Wait, Send, HangUp, Idle, Quit}
+use Rattle.txs_session.specs.declared.doing.Doing.{Doing}
+use Rattle.txs_session.specs.declared.doing.Doing.TheVariants.{Say, Dial, Wait, Send, HangUp, Idle, Quit}
 use Rattle.txs_drive.specs.declared.driver.Stop.TheVariants as stop
-use Rattle.txs_drive.specs.declared.model.Model.{Model}
-use Rattle.txs_drive.specs.declared.note.Note.TheVariants as note
-use Rattle.txs_drive.specs.Lines.{line_of}
-use Rattle.txs_drive.specs.Session.{Run, State, dialled_of, send_told, done}
+use Rattle.txs_words.specs.declared.model.Model.{Model}
+use Rattle.txs_session.specs.declared.note.Note.TheVariants as note
+use Rattle.txs_session.specs.Lines.{line_of}
+use Rattle.txs_session.specs.Session.{Run, State, dialled_of, send_told, done}
 use Rattle.txs_drive.specs.Course.{due_in}
-use Rattle.txs_drive.specs.inner.Ready.{IsNext, ToldBy, next_number, ends_after}
+use Rattle.txs_session.specs.Ready.{IsNext, ToldBy, next_number, ends_after}
 use Rattle.txs_drive.specs.Cut.{Torn}
 use Rattle.txs_drive.specs.inner.CarriedOut.{CarriedOut, CallAnswered}
 use Rattle.txs_drive.specs.inner.Stopped.{Stopped}
-use Rattle.txs_drive.proofs.Courses.{went_then, went_called, went_said}
-use Rattle.txs_drive.proofs.Stops.{went_stopped, stopped_torn}
+use Rattle.txs_drive.proofs.Courses.{carried_out_then, carried_out_call, carried_out_say}
+use Rattle.txs_drive.proofs.Stops.{stopped_after, stopped_torn}
 
 -- what is due once an action is sent
 pub sent_says : (r : Option Run) (s t : State) (v : ℤ) (ok : Bool) → ok ≡ true → ToldBy r (λ q. send_told v ok q s) t → t.todo ≡ Say (note.In (next_number r) v) ∷ Idle ∷ []
@@ -46,19 +46,19 @@ pub next_says : (d : Doing) (n : ℕ) (v : ℤ) (t u : State) → t.todo ≡ say
 next_says d n v t u h x = next_done d n v t u (next_is d n v t u h x) h x
 
 -- it was sent, and its line was written
-pub went_sent : (m : Model) (s s1 t u : State) (k0 k1 : Option (List ℕ)) (u0 u1 : Option (List SutEntry)) (h0 h1 : Option ℕ) (f0 f1 : ℕ) (v : ℤ) (n : ℕ) (ok : Bool) (d : Doing) (text : List ℕ)
+pub carried_out_sent : (m : Model) (s s1 t u : State) (k0 k1 : Option (List ℕ)) (u0 u1 : Option (List SutEntry)) (h0 h1 : Option ℕ) (f0 f1 : ℕ) (v : ℤ) (n : ℕ) (ok : Bool) (d : Doing) (text : List ℕ)
     → s1 ≡ s → CallAnswered m s1 t u0 u1 h0 h1 f0 f1 → ok ≡ true → ToldBy s1.run (λ r. send_told v ok r s1) t → n ≡ next_number s.run → IsNext d t u → text ≡ line_of m (note.In n v) → Grows k0 k1 text
     → CarriedOut m s u k0 k1 u0 u1 h0 h1 f0 f1 [] false
-went_sent m s s1 t u k0 k1 u0 u1 h0 h1 f0 f1 v n ok d text e c o told num x l g =
+carried_out_sent m s s1 t u k0 k1 u0 u1 h0 h1 f0 f1 v n ok d text e c o told num x l g =
     let due : t.todo ≡ says_in n v = sent_says s1.run s1 t v ok o told ∙ ap (λ (i : ℕ). says_in i v) (sym (num ∙ ap (λ (y : State). next_number y.run) (sym e))) in
-    went_then m s t u k0 k0 k1 u0 u1 u1 h0 h1 h1 f0 f1 f1 [] [] false
-    (subst (λ (y : State). CarriedOut m y t k0 k0 u0 u1 h0 h1 f0 f1 [] false) e (went_called m s1 t k0 u0 u1 h0 h1 f0 f1 c))
-    (went_said m t u k0 k1 u1 h1 f1 (note.In n v) (Idle ∷ []) text due (next_says d n v t u due x) l g)
+    carried_out_then m s t u k0 k0 k1 u0 u1 u1 h0 h1 h1 f0 f1 f1 [] [] false
+    (subst (λ (y : State). CarriedOut m y t k0 k0 u0 u1 h0 h1 f0 f1 [] false) e (carried_out_call m s1 t k0 u0 u1 h0 h1 f0 f1 c))
+    (carried_out_say m t u k0 k1 u1 h1 f1 (note.In n v) (Idle ∷ []) text due (next_says d n v t u due x) l g)
 
 -- it could not be sent
-pub went_unsent : (m : Model) (s s1 t : State) (k : Option (List ℕ)) (u0 u1 : Option (List SutEntry)) (h0 h1 : Option ℕ) (f0 f1 : ℕ)
+pub carried_out_unsent : (m : Model) (s s1 t : State) (k : Option (List ℕ)) (u0 u1 : Option (List SutEntry)) (h0 h1 : Option ℕ) (f0 f1 : ℕ)
     → s1 ≡ s → CallAnswered m s1 t u0 u1 h0 h1 f0 f1 → CarriedOut m s t k k u0 u1 h0 h1 f0 f1 [] false
-went_unsent m s s1 t k u0 u1 h0 h1 f0 f1 e c = subst (λ (y : State). CarriedOut m y t k k u0 u1 h0 h1 f0 f1 [] false) e (went_called m s1 t k u0 u1 h0 h1 f0 f1 c)
+carried_out_unsent m s s1 t k u0 u1 h0 h1 f0 f1 e c = subst (λ (y : State). CarriedOut m y t k k u0 u1 h0 h1 f0 f1 [] false) e (carried_out_call m s1 t k u0 u1 h0 h1 f0 f1 c)
 
 -- it was sent, and its line was begun
 pub stopped_sent : (m : Model) (s s1 t u : State) (n1 : ℕ) (k0 k1 : Option (List ℕ)) (u0 u1 : Option (List SutEntry)) (h0 h1 : Option ℕ) (f0 f1 : ℕ) (v : ℤ) (n : ℕ) (ok : Bool) (d : Doing) (text : List ℕ)
@@ -68,8 +68,8 @@ pub stopped_sent : (m : Model) (s s1 t u : State) (n1 : ℕ) (k0 k1 : Option (Li
 stopped_sent m s s1 t u n1 k0 k1 u0 u1 h0 h1 f0 f1 v n ok d text e c o told num x l g z =
     let due : t.todo ≡ says_in n v = sent_says s1.run s1 t v ok o told ∙ ap (λ (i : ℕ). says_in i v) (sym (num ∙ ap (λ (y : State). next_number y.run) (sym e))) in
     let same : n1 ≡ dialled_of t.run = z ∙ ap (λ (y : Doing). ends_after y (dialled_of t.run)) (next_is d n v t u due x) in
-    went_stopped stop.Sink m s t n1 k0 k0 k1 u0 u1 u1 h0 h1 h1 f0 f1 f1 [] []
-    (subst (λ (y : State). CarriedOut m y t k0 k0 u0 u1 h0 h1 f0 f1 [] false) e (went_called m s1 t k0 u0 u1 h0 h1 f0 f1 c))
+    stopped_after stop.Sink m s t n1 k0 k0 k1 u0 u1 u1 h0 h1 h1 f0 f1 f1 [] []
+    (subst (λ (y : State). CarriedOut m y t k0 k0 u0 u1 h0 h1 f0 f1 [] false) e (carried_out_call m s1 t k0 u0 u1 h0 h1 f0 f1 c))
     (stopped_torn m t n1 k0 k1 u1 h1 f1 (note.In n v) (Idle ∷ []) text due l g same)
 
 -- the line that is due leaves the ends dialled

@@ -3,9 +3,9 @@ use Rattle.std.proofs.Common.{◌≡◌, ℕ, Bool, List, [], Option, Some, sym,
 use Rattle.txs_outside.specs.Causes.{Rose}
 use Rattle.txs_outside.specs.Known.{Adds, Adds-then}
 use Rattle.txs_outside.specs.declared.sut.SutEntry.{SutEntry}
-use Rattle.txs_drive.specs.declared.model.Model.{Model}
+use Rattle.txs_words.specs.declared.model.Model.{Model}
 use Rattle.txs_drive.specs.declared.feed.Finish.{Finish}
-use Rattle.txs_drive.specs.Session.{State, at_start, dialled_of}
+use Rattle.txs_session.specs.Session.{State, at_start, dialled_of}
 use Rattle.txs_drive.specs.Course.{notes_in, has_fail, hung_after, calls_in, due_in}
 use Rattle.txs_drive.specs.Served.{Served, last_of}
 use Rattle.txs_drive.specs.inner.CarriedOut.{CommandsCarriedOut, code_of}

@@ -1,25 +1,25 @@
 -- Where a session stops, over plain variables.
-use Rattle.std.proofs.Common.{◌≡◌, ◌≤◌, inl, inr, ℕ, Bool, true, false, cond, List, [], ◌∷◌, ◌++◌, Option, None, Some, Result, Ok, Err, OnErr, IfErr, IsErrAnd, refl, arith, append_assoc, append-nil, ap, subst, sym, ◌∙◌}
+use Rattle.std.proofs.Common.{◌≡◌, ◌≤◌, ◌<◌, ◌+◌, inl, inr, ℕ, Bool, true, false, cond, List, [], ◌∷◌, ◌++◌, Option, None, Some, Result, Ok, Err, OnErr, IfErr, IsErrAnd, refl, arith, append_assoc, append-nil, take, drop, get_or, length, ap, subst, sym, ◌∙◌}
 use Rattle.txs_outside.specs.declared.sut.SutEntry.{SutEntry}
 use Rattle.txs_outside.specs.Causes.{Rose-before, Rose-after}
 use Rattle.txs_outside.specs.Known.{Grows, Adds, Grows-none, Grows-then, Adds-none, Adds-then}
 use Rattle.txs_drive.specs.declared.driver.Stop.{Stop}
 use Rattle.txs_drive.specs.declared.driver.Stop.TheVariants as stop
-use Rattle.txs_drive.specs.declared.doing.Doing.{Doing}
-use Rattle.txs_drive.specs.declared.doing.Doing.TheVariants.{Say}
+use Rattle.txs_session.specs.declared.doing.Doing.{Doing}
+use Rattle.txs_session.specs.declared.doing.Doing.TheVariants.{Say}
 use Rattle.txs_drive.specs.declared.feed.Read.{Read}
 use Rattle.txs_drive.specs.declared.feed.Read.TheVariants as read
-use Rattle.txs_drive.specs.declared.model.Model.{Model}
-use Rattle.txs_drive.specs.declared.note.Note.{Note}
-use Rattle.txs_drive.specs.Lines.{line_of}
-use Rattle.txs_drive.specs.Session.{Run, State, dialled_of}
-use Rattle.txs_drive.specs.inner.Ready.{IsFresh}
+use Rattle.txs_words.specs.declared.model.Model.{Model}
+use Rattle.txs_session.specs.declared.note.Note.{Note}
+use Rattle.txs_session.specs.Lines.{line_of}
+use Rattle.txs_session.specs.Session.{Run, State, dialled_of}
+use Rattle.txs_session.specs.Ready.{IsFresh}
 use Rattle.txs_drive.specs.Course.{Event, dials, stays, lines_in, notes_in, text_of, hung_after, calls_in, due_in}
 use Rattle.txs_drive.specs.Cut.{Torn, IsUnheeded, dialled_by}
 use Rattle.txs_drive.specs.inner.CarriedOut.{HasNoFeed, joined, CarriedOut, LinesCarriedOut}
 use Rattle.txs_drive.specs.inner.Stopped.{Stopped, StoppedInBytes}
 use Rattle.txs_drive.proofs.Courses.{leads_then, lines_in-append, notes_in-append, text_of-append, hung_after-append, calls_in-append, any_cases, stays_then}
-use Rattle.txs_drive.proofs.Feeding.{all-append, joined-append}
+use Rattle.txs_drive.proofs.Feeding.{all-append, joined-append, take_step, take_rest}
 use Rattle.txs_drive.proofs.Told.{unheeded_undue}
 
 -- ---- answers and failures
@@ -133,9 +133,9 @@ lines_then a b ls ms behind e f =
     ∙ (sym (append_assoc (lines_in a) (lines_in b) behind) ∙ ap (λ (z : List (List ℕ)). z ++ behind) (sym (lines_in-append a b))))
 
 -- one stretch, and then a stop
-pub went_stopped : (x : Stop) (m : Model) (s t : State) (n : ℕ) (k0 k1 k2 : Option (List ℕ)) (u0 u1 u2 : Option (List SutEntry)) (h0 h1 h2 : Option ℕ) (f0 f1 f2 : ℕ) (ls ms : List (List ℕ))
+pub stopped_after : (x : Stop) (m : Model) (s t : State) (n : ℕ) (k0 k1 k2 : Option (List ℕ)) (u0 u1 u2 : Option (List SutEntry)) (h0 h1 h2 : Option ℕ) (f0 f1 f2 : ℕ) (ls ms : List (List ℕ))
     → CarriedOut m s t k0 k1 u0 u1 h0 h1 f0 f1 ls false → Stopped x m t n k1 k2 u1 u2 h1 h2 f1 f2 ms → Stopped x m s n k0 k2 u0 u2 h0 h2 f0 f2 (ls ++ ms)
-went_stopped x m s t n k0 k1 k2 u0 u1 u2 h0 h1 h2 f0 f1 f2 ls ms a b = record {
+stopped_after x m s t n k0 k1 k2 u0 u1 u2 h0 h1 h2 f0 f1 f2 ls ms a b = record {
   events = a.events ++ b.events;
   behind = b.behind;
   final = b.final;
@@ -192,9 +192,9 @@ stopped_in_more x m s n k0 k1 u0 u1 h0 h1 f0 f1 bytes more y = record {
 }
 
 -- after bytes whose lines were carried out
-pub took_stopped : (x : Stop) (m : Model) (s t : State) (n : ℕ) (k0 k1 k2 : Option (List ℕ)) (u0 u1 u2 : Option (List SutEntry)) (h0 h1 h2 : Option ℕ) (f0 f1 f2 : ℕ) (bytes more pending : List ℕ)
+pub stopped_in_bytes_after : (x : Stop) (m : Model) (s t : State) (n : ℕ) (k0 k1 k2 : Option (List ℕ)) (u0 u1 u2 : Option (List SutEntry)) (h0 h1 h2 : Option ℕ) (f0 f1 f2 : ℕ) (bytes more pending : List ℕ)
     → LinesCarriedOut m s t k0 k1 u0 u1 h0 h1 f0 f1 bytes pending false → StoppedInBytes x m t n k1 k2 u1 u2 h1 h2 f1 f2 (pending ++ more) → StoppedInBytes x m s n k0 k2 u0 u2 h0 h2 f0 f2 (bytes ++ more)
-took_stopped x m s t n k0 k1 k2 u0 u1 u2 h0 h1 h2 f0 f1 f2 bytes more pending a b = record {
+stopped_in_bytes_after x m s t n k0 k1 k2 u0 u1 u2 h0 h1 h2 f0 f1 f2 bytes more pending a b = record {
   lines = a.lines ++ b.lines;
   rest = b.rest;
   split = ap (λ (z : List ℕ). z ++ more) a.split
@@ -202,5 +202,15 @@ took_stopped x m s t n k0 k1 k2 u0 u1 u2 h0 h1 h2 f0 f1 f2 bytes more pending a 
       ∙ (ap (λ (z : List ℕ). joined a.lines ++ z) b.split
       ∙ (sym (append_assoc (joined a.lines) (joined b.lines) b.rest) ∙ ap (λ (z : List ℕ). z ++ b.rest) (sym (joined-append a.lines b.lines)))));
   each = all-append HasNoFeed a.lines b.lines a.each b.each;
-  stopped = went_stopped x m s t n k0 k1 k2 u0 u1 u2 h0 h1 h2 f0 f1 f2 a.lines b.lines a.went b.stopped;
+  stopped = stopped_after x m s t n k0 k1 k2 u0 u1 u2 h0 h1 h2 f0 f1 f2 a.lines b.lines a.went b.stopped;
 }
+
+-- in the midst of a read, at this byte
+pub stopped_in_read : (x : Stop) (m : Model) (s t : State) (n : ℕ) (k0 k1 k2 : Option (List ℕ)) (u0 u1 u2 : Option (List SutEntry)) (h0 h1 h2 : Option ℕ) (f0 f1 f2 : ℕ) (p got : List ℕ) (i : ℕ) (pending : List ℕ)
+    → i < length got → LinesCarriedOut m s t k0 k1 u0 u1 h0 h1 f0 f1 (p ++ take i got) pending false → StoppedInBytes x m t n k1 k2 u1 u2 h1 h2 f1 f2 (pending ++ get_or got i 0 ∷ [])
+    → StoppedInBytes x m s n k0 k2 u0 u2 h0 h2 f0 f2 (p ++ got)
+stopped_in_read x m s t n k0 k1 k2 u0 u1 u2 h0 h1 h2 f0 f1 f2 p got i pending h a b =
+    subst (λ (z : List ℕ). StoppedInBytes x m s n k0 k2 u0 u2 h0 h2 f0 f2 z) (take_rest p got (i + 1))
+    (stopped_in_more x m s n k0 k2 u0 u2 h0 h2 f0 f2 (p ++ take (i + 1) got) (drop (i + 1) got)
+    (subst (λ (z : List ℕ). StoppedInBytes x m s n k0 k2 u0 u2 h0 h2 f0 f2 z) (take_step p got i h)
+    (stopped_in_bytes_after x m s t n k0 k1 k2 u0 u1 u2 h0 h1 h2 f0 f1 f2 (p ++ take i got) (get_or got i 0 ∷ []) pending a b)))

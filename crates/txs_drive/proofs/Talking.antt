@@ -2,16 +2,16 @@
 use Rattle.std.proofs.Common.{◌≡◌, ◌≤◌, ◌<◌, ◌+◌, ℕ, Bool, true, false, List, [], ◌∷◌, ◌++◌, Option, length, refl, sym, ◌∙◌, ap, append-nil, subst, arith, length-append}
 use Rattle.txs_outside.specs.declared.sut.SutEntry.{SutEntry}
 use Rattle.txs_outside.specs.Known.{Grows, Loses, Tells, Grows-none, Grows-then}
-use Rattle.txs_drive.specs.declared.model.Model.{Model}
+use Rattle.txs_words.specs.declared.model.Model.{Model}
 use Rattle.txs_drive.specs.declared.feed.Finish.{Finish}
 use Rattle.txs_drive.specs.declared.feed.Finish.TheVariants as finish
-use Rattle.txs_drive.specs.Session.{State, at_start}
+use Rattle.txs_session.specs.Session.{State, at_start}
 use Rattle.txs_drive.specs.Course.{Event, lines_in}
 use Rattle.txs_drive.specs.Served.{Ending, open', end, fault, limit, command_lines, last_part}
 use Rattle.txs_drive.specs.inner.CarriedOut.{HasNoFeed, joined, LinesCarriedOut, BytesCarriedOut, LastLineCarriedOut, CommandsCarriedOut}
-use Rattle.txs_drive.proofs.Courses.{went_then}
+use Rattle.txs_drive.proofs.Courses.{carried_out_then}
 use Rattle.txs_drive.proofs.Losing.{loses_none, loses_then, loses_all}
-use Rattle.txs_drive.proofs.Feeding.{took_part, took_then, commands_joined, commands_part}
+use Rattle.txs_drive.proofs.Feeding.{no_line_carried_out, lines_carried_out_then, commands_joined, commands_part}
 
 -- these bytes were given, their lines were carried out, and the rest is pending
 pub record Talked (m : Model) (t : State) (g0 g1 l0 l1 : Option (List ℕ)) (k0 k1 : Option (List ℕ)) (u0 u1 : Option (List SutEntry)) (h0 h1 : Option ℕ) (f0 f1 : ℕ) (taken : ℕ) (pending : List ℕ) : Type 0 where
@@ -28,7 +28,7 @@ talked_begin m s g0 l0 k u h f pending e n = record {
   gave = Grows-none g0;
   lost = loses_none l0;
   count = refl;
-  took = subst (λ (p : List ℕ). LinesCarriedOut m at_start s k k u u h h f f [] p false) (sym n) (subst (λ (t : State). LinesCarriedOut m at_start t k k u u h h f f [] [] false) (sym e) (took_part m at_start k u h f []));
+  took = subst (λ (p : List ℕ). LinesCarriedOut m at_start s k k u u h h f f [] p false) (sym n) (subst (λ (t : State). LinesCarriedOut m at_start t k k u u h h f f [] [] false) (sym e) (no_line_carried_out m at_start k u h f []));
 }
 
 -- bytes were read, and their lines were carried out
@@ -41,20 +41,20 @@ talked_on m t v g0 g1 g2 l0 l1 l2 k0 k1 k2 u0 u1 u2 h0 h1 h2 f0 f1 f2 n i pendin
   lost = loses_then l0 l1 l2 x.given got x.lost lo;
   count = omega (arith, length-append x.given got, x.count, e);
   took = subst (λ (r : List ℕ). LinesCarriedOut m at_start v k0 k2 u0 u2 h0 h2 f0 f2 (x.given ++ got) r false) (y.2 refl)
-      (took_then m at_start t v k0 k1 k2 u0 u1 u2 h0 h1 h2 f0 f1 f2 x.given got pending y.0 false x.took y.1);
+      (lines_carried_out_then m at_start t v k0 k1 k2 u0 u1 u2 h0 h1 h2 f0 f1 f2 x.given got pending y.0 false x.took y.1);
 }
 
 -- the lines of what was taken
-took_lines : (e : Ending) (bytes rest : List ℕ) (lines : List (List ℕ)) (events : List Event) → bytes ≡ joined lines ++ rest → lines_in events ≡ lines → command_lines (joined lines ++ rest) e ≡ lines ++ command_lines rest e
+command_lines_read : (e : Ending) (bytes rest : List ℕ) (lines : List (List ℕ)) (events : List Event) → bytes ≡ joined lines ++ rest → lines_in events ≡ lines → command_lines (joined lines ++ rest) e ≡ lines ++ command_lines rest e
     → command_lines bytes e ≡ lines_in events ++ command_lines rest e
-took_lines e bytes rest lines events split read c = ap (λ (b : List ℕ). command_lines b e) split ∙ (c ∙ ap (λ (l : List (List ℕ)). l ++ command_lines rest e) (sym read))
+command_lines_read e bytes rest lines events split read c = ap (λ (b : List ℕ). command_lines b e) split ∙ (c ∙ ap (λ (l : List (List ℕ)). l ++ command_lines rest e) (sym read))
 
 -- a `quit` was met among the bytes of a read
 pub conversed_quit : (m : Model) (t v : State) (g0 g1 g2 l0 l1 l2 : Option (List ℕ)) (at_end : Bool) (k0 k1 k2 : Option (List ℕ)) (u0 u1 u2 : Option (List SutEntry)) (h0 h1 h2 : Option ℕ) (f0 f1 f2 n : ℕ) (pending got later : List ℕ)
     → Talked m t g0 g1 l0 l1 k0 k1 u0 u1 h0 h1 f0 f1 n pending → Grows g1 g2 got → Loses l1 l2 got → n + length got ≤ 16777216 → v.todo ≡ [] → BytesCarriedOut m t v k1 k2 u1 u2 h1 h2 f1 f2 (pending ++ got) later true
     → CommandsCarriedOut m finish.Quit v g0 g2 l0 l2 at_end k0 k2 u0 u2 h0 h2 f0 f2
 conversed_quit m t v g0 g1 g2 l0 l1 l2 at_end k0 k1 k2 u0 u1 u2 h0 h1 h2 f0 f1 f2 n pending got later x g lo within idle y =
-    let took = took_then m at_start t v k0 k1 k2 u0 u1 u2 h0 h1 h2 f0 f1 f2 x.given got pending y.0 true x.took y.1 in
+    let took = lines_carried_out_then m at_start t v k0 k1 k2 u0 u1 u2 h0 h1 h2 f0 f1 f2 x.given got pending y.0 true x.took y.1 in
     record {
       given = x.given ++ got;
       commands = x.given ++ got;
@@ -67,7 +67,7 @@ conversed_quit m t v g0 g1 g2 l0 l1 l2 at_end k0 k1 k2 u0 u1 u2 h0 h1 h2 f0 f1 f
       split = (refl, omega (arith, length-append x.given got, x.count, within));
       ended = λ e. cc;
       leads = took.went.leads;
-      lines = took_lines open' (x.given ++ got) y.0 took.lines took.went.events took.split took.went.read (commands_joined open' took.lines y.0 took.each);
+      lines = command_lines_read open' (x.given ++ got) y.0 took.lines took.went.events took.split took.went.read (commands_joined open' took.lines y.0 took.each);
       rests = (idle, (took.went.left refl).0, (took.went.left refl).1, (took.went.left refl).2);
       text = took.went.text;
       calls = took.went.calls;
@@ -95,7 +95,7 @@ conversed_fault m t g0 g1 g2 l0 l1 l2 at_end k0 k1 u0 u1 h0 h1 f0 f1 n pending x
   ended = λ e. cc;
   leads = x.took.went.leads;
   lines = ap (λ (b : List ℕ). command_lines b fault) (append-nil x.given)
-      ∙ (took_lines fault x.given pending x.took.lines x.took.went.events x.took.split x.took.went.read (commands_joined fault x.took.lines pending x.took.each)
+      ∙ (command_lines_read fault x.given pending x.took.lines x.took.went.events x.took.split x.took.went.read (commands_joined fault x.took.lines pending x.took.each)
       ∙ ap (λ (l : List (List ℕ)). lines_in x.took.went.events ++ l) (commands_part fault pending nf));
   rests = (idle, refl, x.took.went.stays refl);
   text = x.took.went.text;
@@ -130,7 +130,7 @@ conversed_limit m t g0 g1 g2 l0 l1 l2 at_end k0 k1 u0 u1 h0 h1 f0 f1 n pending g
       split = (b.0, ap (λ (z : List ℕ). x.given ++ z) b.1, x.count ∙ full);
       ended = λ e. cc;
       leads = x.took.went.leads;
-      lines = took_lines limit x.given pending x.took.lines x.took.went.events x.took.split x.took.went.read (commands_joined limit x.took.lines pending x.took.each)
+      lines = command_lines_read limit x.given pending x.took.lines x.took.went.events x.took.split x.took.went.read (commands_joined limit x.took.lines pending x.took.each)
           ∙ ap (λ (l : List (List ℕ)). lines_in x.took.went.events ++ l) (commands_part limit pending nf);
       rests = (idle, refl, x.took.went.stays refl);
       text = x.took.went.text;
@@ -153,7 +153,7 @@ pub conversed_end : (m : Model) (t v : State) (g0 g1 g2 l0 l1 l2 : Option (List 
     → Talked m t g0 g1 l0 l1 k0 k1 u0 u1 h0 h1 f0 f1 n pending → Grows g1 g2 [] → Loses l1 l2 [] → n ≤ 16777216 → HasNoFeed pending → v.todo ≡ [] → (at_end ≡ true) × Tells l1 [] → line ≡ pending
     → LastLineCarriedOut m t v k1 k2 u1 u2 h1 h2 f1 f2 line f → CommandsCarriedOut m f v g0 g2 l0 l2 at_end k0 k2 u0 u2 h0 h2 f0 f2
 conversed_end m t v g0 g1 g2 l0 l1 l2 at_end k0 k1 k2 u0 u1 u2 h0 h1 h2 f0 f1 f2 n pending line finish.Quit x g lo within nf idle ended e y =
-    let all = went_then m at_start t v k0 k1 k2 u0 u1 u2 h0 h1 h2 f0 f1 f2 x.took.lines (last_part end line) true x.took.went y.0 in
+    let all = carried_out_then m at_start t v k0 k1 k2 u0 u1 u2 h0 h1 h2 f0 f1 f2 x.took.lines (last_part end line) true x.took.went y.0 in
     record {
       given = x.given ++ [];
       commands = x.given ++ [];
@@ -177,7 +177,7 @@ conversed_end m t v g0 g1 g2 l0 l1 l2 at_end k0 k1 k2 u0 u1 u2 h0 h1 h2 f0 f1 f2
       status = λ failed. refl;
     }
 conversed_end m t v g0 g1 g2 l0 l1 l2 at_end k0 k1 k2 u0 u1 u2 h0 h1 h2 f0 f1 f2 n pending line finish.End x g lo within nf idle ended e y =
-    let all = went_then m at_start t v k0 k1 k2 u0 u1 u2 h0 h1 h2 f0 f1 f2 x.took.lines (last_part end line) false x.took.went y.0 in
+    let all = carried_out_then m at_start t v k0 k1 k2 u0 u1 u2 h0 h1 h2 f0 f1 f2 x.took.lines (last_part end line) false x.took.went y.0 in
     record {
       given = x.given ++ [];
       commands = x.given ++ [];

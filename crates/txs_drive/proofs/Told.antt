@@ -1,21 +1,21 @@
 -- Each action that was sent is told in the transcript, or its line is due.
 use Rattle.std.proofs.Common.{◌≡◌, ◌∙◌, inl, inr, ℕ, ℤ, ◌+◌, Bool, true, false, cond, nat_lt, List, [], ◌∷◌, ◌++◌, Option, None, Some, length, refl, sym, ap, subst, append-nil}
-use Rattle.txs_drive.specs.declared.model.Model.{Model}
-use Rattle.txs_drive.specs.declared.command.Command.{Command}
-use Rattle.txs_drive.specs.declared.command.Command.TheVariants as command
-use Rattle.txs_drive.specs.declared.doing.Doing.{Doing}
-use Rattle.txs_drive.specs.declared.doing.Doing.TheVariants.{Say, Dial, Wait, Send, HangUp, Idle, Quit}
-use Rattle.txs_drive.specs.declared.note.Note.{Note}
-use Rattle.txs_drive.specs.declared.note.Note.TheVariants as note
-use Rattle.txs_drive.specs.declared.note.Seen.{Seen}
-use Rattle.txs_drive.specs.declared.note.Seen.TheVariants as seen
-use Rattle.txs_drive.specs.declared.note.Ending.TheVariants.{Fail}
-use Rattle.txs_drive.specs.declared.answer.Answer.{Answer}
-use Rattle.txs_drive.specs.declared.answer.Answer.TheVariants as answer
-use Rattle.txs_drive.specs.Commands.{command_of}
-use Rattle.txs_drive.specs.Session.{Run, State, at_start, Carries, IfGoing, Stimulates, Heeds, Judges, dial_told, send_told, answer_of, seen_note, done, dialled_of, started}
+use Rattle.txs_words.specs.declared.model.Model.{Model}
+use Rattle.txs_session.specs.declared.command.Command.{Command}
+use Rattle.txs_session.specs.declared.command.Command.TheVariants as command
+use Rattle.txs_session.specs.declared.doing.Doing.{Doing}
+use Rattle.txs_session.specs.declared.doing.Doing.TheVariants.{Say, Dial, Wait, Send, HangUp, Idle, Quit}
+use Rattle.txs_session.specs.declared.note.Note.{Note}
+use Rattle.txs_session.specs.declared.note.Note.TheVariants as note
+use Rattle.txs_session.specs.declared.note.Seen.{Seen}
+use Rattle.txs_session.specs.declared.note.Seen.TheVariants as seen
+use Rattle.txs_session.specs.declared.note.Ending.TheVariants.{Fail}
+use Rattle.txs_session.specs.declared.answer.Answer.{Answer}
+use Rattle.txs_session.specs.declared.answer.Answer.TheVariants as answer
+use Rattle.txs_session.specs.Commands.{command_of}
+use Rattle.txs_session.specs.Session.{Run, State, at_start, Carries, IfGoing, Stimulates, Heeds, Judges, dial_told, send_told, answer_of, seen_note, done, dialled_of, started}
 use Rattle.txs_drive.specs.Course.{Event, does', dials, waits, sends, Leads, stays, reading, doing, dialling, waiting, sending, notes_in, notes_of, sent_in, told_in, due_in}
-use Rattle.txs_drive.specs.inner.Ready.{ToldBy, HeedsBy, IsNext, IsObserved}
+use Rattle.txs_session.specs.Ready.{ToldBy, HeedsBy, IsNext, IsObserved}
 use Rattle.txs_drive.specs.Cut.{IsUnheeded}
 
 -- ---- nothing is due

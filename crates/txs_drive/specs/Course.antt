@@ -8,14 +8,14 @@ use Rattle.txs_outside.specs.declared.sut.SutCall.TheVariants as call
 use Rattle.txs_outside.specs.declared.sut.SutEntry.{SutEntry}
 use Rattle.txs_outside.specs.declared.ends.Ends.{Ends}
 use Rattle.txs_outside.specs.Hanging.{number_of, more}
-use Rattle.txs_drive.specs.declared.doing.Doing.{Doing}
-use Rattle.txs_drive.specs.declared.doing.Doing.TheVariants.{Say, Dial, Wait, Send, HangUp, Idle, Quit}
-use Rattle.txs_drive.specs.declared.model.Model.{Model}
-use Rattle.txs_drive.specs.declared.note.Note.{Note}
-use Rattle.txs_drive.specs.declared.note.Note.TheVariants as note
-use Rattle.txs_drive.specs.Commands.{command_of}
-use Rattle.txs_drive.specs.Lines.{line_of, sent_line}
-use Rattle.txs_drive.specs.Session.{Run, State, Carries, dial_told, send_told, answer_of, Heeds, is_fail, done}
+use Rattle.txs_session.specs.declared.doing.Doing.{Doing}
+use Rattle.txs_session.specs.declared.doing.Doing.TheVariants.{Say, Dial, Wait, Send, HangUp, Idle, Quit}
+use Rattle.txs_words.specs.declared.model.Model.{Model}
+use Rattle.txs_session.specs.declared.note.Note.{Note}
+use Rattle.txs_session.specs.declared.note.Note.TheVariants as note
+use Rattle.txs_session.specs.Commands.{command_of}
+use Rattle.txs_session.specs.Lines.{line_of, sent_line}
+use Rattle.txs_session.specs.Session.{Run, State, Carries, dial_told, send_told, answer_of, Heeds, is_fail, asks_nothing, done}
 
 -- a command line is read, a doing that asks nothing is done, or a call on the system is answered
 pub data Event : Type 0 where
@@ -24,16 +24,6 @@ pub data Event : Type 0 where
   dials : Bool → Event
   waits : Heard → Event
   sends : ℤ → Bool → Event
-
--- the doings that ask the system nothing
-abbrev pub asks_nothing : Doing → Bool
-asks_nothing (Say n) = true
-asks_nothing Dial = false
-asks_nothing Wait = false
-asks_nothing (Send v) = false
-asks_nothing HangUp = true
-asks_nothing Idle = true
-asks_nothing Quit = true
 
 -- From one state these events lead to another. A line is read if nothing is left to be done.
 pub data Leads (m : Model) : State → List Event → State → Type 0 where

@@ -1,10 +1,3 @@
-pub mod Form
-pub mod File
-pub mod Parts
-pub mod Commands
-pub mod Lines
-pub mod Allowed
-pub mod Session
 pub mod Course
 pub mod Served
 pub mod Cut

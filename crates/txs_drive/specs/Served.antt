@@ -3,11 +3,11 @@ use Rattle.std.specs.Prelude.{◌≡◌, ℕ, zero, suc, ◌≤◌, Bool, true, 
 use Rattle.txs_outside.specs.Causes.{Rose}
 use Rattle.txs_outside.specs.Known.{Grows, Loses, Tells, Adds}
 use Rattle.txs_outside.specs.declared.sut.SutEntry.{SutEntry}
-use Rattle.txs_drive.specs.declared.doing.Doing.TheVariants.{HangUp, Quit}
-use Rattle.txs_drive.specs.declared.model.Model.{Model}
-use Rattle.txs_drive.specs.declared.note.Note.TheVariants as note
-use Rattle.txs_drive.specs.declared.note.Ending.TheVariants.{Link}
-use Rattle.txs_drive.specs.Session.{State, at_start, dialled_of}
+use Rattle.txs_session.specs.declared.doing.Doing.TheVariants.{HangUp, Quit}
+use Rattle.txs_words.specs.declared.model.Model.{Model}
+use Rattle.txs_session.specs.declared.note.Note.TheVariants as note
+use Rattle.txs_session.specs.declared.note.Ending.TheVariants.{Link}
+use Rattle.txs_session.specs.Session.{State, at_start, dialled_of}
 use Rattle.txs_drive.specs.Course.{Event, does', Leads, lines_in, notes_in, text_of, has_fail, has_quit, IsNoted, hung_after, calls_in, dialled_in, hung_in, sent_in, told_in, AnyFailed}
 
 -- ---- command bytes

@@ -3,22 +3,20 @@ ghost use Rattle.txs_outside.specs.Causes.{FailsLast};
 ghost use Rattle.txs_outside.specs.Known.{Grows};
 ghost use Rattle.txs_terms.specs.Sets.{IsPlain};
 ghost use Rattle.txs_terms.specs.View.{term_of};
-ghost use Rattle.txs_drive.specs.Session.{dialled_of, send_told};
-ghost use Rattle.txs_drive.specs.inner.Ready.{state_of, IsBusy, IsGoing, IsFresh, IsTied, IsPlainRun, IsPrepared, Keeps, ToldBy};
-ghost use Rattle.txs_drive.specs.Lines;
+ghost use Rattle.txs_session.specs.Session.{dialled_of, send_told};
+ghost use Rattle.txs_session.specs.Ready.{state_of, IsBusy, IsGoing, IsFresh, IsTied, HasPlainSet, IsPrepared, Keeps, ToldBy};
+ghost use Rattle.txs_session.specs.Lines;
 ghost use Rattle.txs_drive.specs.Course.{ends_of, due_in};
 ghost use Rattle.txs_drive.specs.Cut.{Torn};
 ghost use Rattle.txs_drive.specs.inner.CarriedOut.{CarriedOut, CallAnswered, WaitAnswered, IsAhead, IsReady, has_left};
 ghost use Rattle.txs_drive.specs.inner.Stopped.{Stopped, Tracks, ends_in};
 
-use crate::answer::answer_of;
-use crate::lines::{line_of, sent_line};
-use crate::session::Prepared;
-use crate::{Answer, Doing, Model, Note, Session};
 use sqlite_items::Items;
 use std::alloc::Global;
 use txs_outside::{End, Ends, Failed, Sink, Sut};
+use txs_session::{Answer, Doing, Note, Prepared, Session, answer_of, line_of, sent_line};
 use txs_values::NoMemory;
+use txs_words::Model;
 
 /// Why a session stops before its commands are carried out.
 #[derive(Clone, Copy)]
@@ -158,14 +156,14 @@ fn transmit<U: Sut>(
     requires dialled { 0 < U.dialled sut.old }
     requires due { (state_of session.old).todo ≡ Doing.Send value ∷ [] }
     requires going { IsGoing (state_of session.old).run }
-    requires plain { IsPlainRun session.old.run }
+    requires plain { HasPlainSet session.old }
     requires line { line.now ≡ Lines.sent_line value }
     requires prepared { IsPrepared value session.old prepared }
     ensures called { (m : Model) → CallAnswered m (state_of session.old) (state_of session.new) (U.calls sut.old) (U.calls sut.new)
         (U.hang_ups sut.old) (U.hang_ups sut.new) (U.faults sut.old) (U.faults sut.new) }
     ensures told { ToldBy (state_of session.old).run (λ r. send_told value result r (state_of session.old)) (state_of session.new) }
-    ensures kept { (m : Model) → Keeps m session.old.run → Keeps m session.new.run }
-    ensures plain { IsPlainRun session.new.run }
+    ensures kept { (m : Model) → Keeps m session.old → Keeps m session.new }
+    ensures plain { HasPlainSet session.new }
     ensures busy { IsBusy (state_of session.new).run (state_of session.new).todo }
     ensures ends { ends_in session.new ≡ ends_in session.old }
     ensures dialled { U.dialled sut.new ≡ U.dialled sut.old }

@@ -3,17 +3,19 @@ ghost use Rattle.txs_outside.specs.Causes.{FailsLast};
 ghost use Rattle.txs_outside.specs.Known.{Grows, Loses, Tells};
 ghost use Rattle.txs_terms.specs.Sets.{IsPlain};
 ghost use Rattle.txs_terms.specs.View.{term_of};
-ghost use Rattle.txs_drive.specs.Session.{at_start};
-ghost use Rattle.txs_drive.specs.inner.Ready.{state_of, IsTied};
+ghost use Rattle.txs_session.specs.Session.{at_start};
+ghost use Rattle.txs_session.specs.Ready.{state_of, IsTied};
 ghost use Rattle.txs_drive.specs.inner.CarriedOut.{LinesCarriedOut, BytesCarriedOut, IsReady, HasNoFeed, CommandsCarriedOut, LastLineCarriedOut, read_bytes, IsRead};
 ghost use Rattle.txs_drive.specs.Served.{last_part, end};
 ghost use Rattle.txs_drive.specs.inner.Stopped.{Stopped, StoppedInBytes, StoppedInCommands, Tracks, ends_in};
 
+use crate::Stop;
 use crate::driver::carry_out;
-use crate::{Model, Session, Stop};
 use std::alloc::Global;
 use txs_outside::{Got, Sink, Source, Sut};
+use txs_session::Session;
 use txs_values::{Bytes, NoMemory};
+use txs_words::Model;
 
 /// The most bytes of commands.
 const LIMIT: usize = 16_777_216;

@@ -10,9 +10,11 @@ ghost use Rattle.txs_drive.specs.inner.CarriedOut.{code_of};
 
 use crate::driver::say;
 use crate::feed::converse;
-use crate::{Finish, Model, Session, Stop};
+use crate::{Finish, Stop};
 use std::alloc::Global;
 use txs_outside::{Sink, Source, Status, Sut};
+use txs_session::Session;
+use txs_words::Model;
 
 const NOMEM: &str = "NOMEM\n";
 

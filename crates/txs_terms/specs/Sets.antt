@@ -5,7 +5,6 @@ use Rattle.txs_terms.specs.Expr.{Expr, val, slot}
 use Rattle.txs_terms.specs.Action.{Action, Scope, types_on}
 use Rattle.txs_terms.specs.Term.{Position, give, take, Offer, Term, stop, prefix, choice}
 use Rattle.txs_terms.specs.Rules.{In, Model}
-pub use Rattle.txs_terms.specs.After.{CanDo}
 use Rattle.txs_terms.specs.After.{Sync, Observable, After}
 
 -- the list has the terms after the trace, and no others

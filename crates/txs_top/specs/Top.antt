@@ -1,8 +1,8 @@
 -- What the words of the program ask for, and what a run of a file does.
 use Rattle.std.specs.Prelude.{◌≡◌, ◌<◌, ℕ, List, [], ◌∷◌, length, codes, Option, IfSome}
 use Rattle.txs_outside.specs.Known.{Tells}
-use Rattle.txs_drive.specs.declared.model.Model.{Model}
-use Rattle.txs_drive.specs.File.{IsFile, StatesOnly}
+use Rattle.txs_words.specs.declared.model.Model.{Model}
+use Rattle.txs_words.specs.File.{IsFile, StatesOnly}
 
 -- the words ask for a run of this file
 abbrev pub IsRun : List (List ℕ) → List ℕ → Type 0

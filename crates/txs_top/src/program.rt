@@ -2,14 +2,15 @@ ghost use Rattle.std.specs.Prelude.{◌≡◌, ◌⊎◌, ◌≢◌, ◌<◌, �
 ghost use Rattle.txs_outside.specs.Causes.{Rose};
 ghost use Rattle.txs_outside.specs.Hanging.{more};
 ghost use Rattle.txs_outside.specs.Known.{Grows, Tells};
-ghost use Rattle.txs_drive.specs.File.{IsFile};
+ghost use Rattle.txs_words.specs.File.{IsFile};
 ghost use Rattle.txs_drive.specs.Served.{Served};
 ghost use Rattle.txs_drive.specs.Cut.{Torn, CutShort, by_sink, by_memory};
 ghost use Rattle.txs_top.specs.Top.{IsRun, IsNoForm, IsNoFile, Asked, Ran, OfFile, IsTooLong, IsLong};
 
 use std::alloc::Global;
-use txs_drive::{LoadFault, close, run_load, run_plain};
+use txs_drive::{close, run_plain};
 use txs_outside::{Files, FilesFault, Sink, Source, Status, Sut};
+use txs_words::{LoadFault, run_load};
 
 const USAGE: &str = "usage: txs run FILE\n";
 

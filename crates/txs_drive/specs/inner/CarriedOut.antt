@@ -1,25 +1,26 @@
 -- What the parts of a session did to the objects of the outside.
-use Rattle.std.specs.Prelude.{◌≡◌, ◌≢◌, ℕ, ◌≤◌, ◌<◌, Bool, true, false, List, [], ◌∷◌, ◌++◌, Option, Some, length}
+use Rattle.std.specs.Prelude.{◌≡◌, ◌≢◌, ℕ, ◌+◌, ◌≤◌, ◌<◌, Bool, true, false, List, [], ◌∷◌, ◌++◌, Option, Some, length}
 use Rattle.std.specs.List.{AllByRecursion}
 use Rattle.txs_outside.specs.Causes.{Rose}
 use Rattle.txs_outside.specs.Known.{Grows, Loses, Tells, Adds}
 use Rattle.txs_outside.specs.declared.sut.SutEntry.{SutEntry}
-use Rattle.txs_drive.specs.declared.doing.Doing.TheVariants.{Quit}
+use Rattle.txs_session.specs.declared.doing.Doing.{Doing}
+use Rattle.txs_session.specs.declared.doing.Doing.TheVariants.{Say, Dial, Wait, Send, HangUp, Idle, Quit}
 use Rattle.txs_drive.specs.declared.driver.Next.{Next}
 use Rattle.txs_drive.specs.declared.driver.Next.TheVariants as next
 use Rattle.txs_drive.specs.declared.feed.Finish.{Finish}
 use Rattle.txs_drive.specs.declared.feed.Finish.TheVariants as finish
 use Rattle.txs_drive.specs.declared.feed.Read.{Read}
 use Rattle.txs_drive.specs.declared.feed.Read.TheVariants as read
-use Rattle.txs_drive.specs.declared.model.Model.{Model}
+use Rattle.txs_words.specs.declared.model.Model.{Model}
 use Rattle.txs_drive.specs.Served.{Ending, end, last_part, command_lines, Gave, EndsAtRest, by_fail, status_of}
 use Rattle.txs_outside.specs.declared.sut.Heard.{Heard}
 use Rattle.txs_outside.specs.declared.sut.Heard.TheVariants.{Failed}
 use Rattle.txs_outside.specs.declared.sut.SutCall.TheVariants as call
-use Rattle.txs_drive.specs.declared.answer.Answer.{Answer}
-use Rattle.txs_drive.specs.declared.session.Session as rust
-use Rattle.txs_drive.specs.Session.{State, at_start, dialled_of, answer_of}
-use Rattle.txs_drive.specs.inner.Ready.{IsBusy, IsTied, IsPlainRun, Keeps, state_of, rank}
+use Rattle.txs_session.specs.declared.answer.Answer.{Answer}
+use Rattle.txs_session.specs.declared.session.Session as rust
+use Rattle.txs_session.specs.Session.{State, at_start, dialled_of, answer_of}
+use Rattle.txs_session.specs.Ready.{IsBusy, IsTied, HasPlainSet, Keeps, state_of}
 use Rattle.txs_drive.specs.Course.{Event, entry, does', Leads, lines_in, notes_in, text_of, has_quit, hung_after, calls_in, AnyFailed}
 
 -- the last event, and no other, is that the session ends
@@ -64,8 +65,8 @@ pub record WaitAnswered (u0 u1 : Option (List SutEntry)) (h0 : Option ℕ) (f0 f
 
 -- what a session keeps, with so many ends of the system dialled
 pub record IsReady (m : Model) (session : rust.Session) (ends : ℕ) : Type 0 where
-  pub kept : Keeps m session.run
-  pub plain : IsPlainRun session.run
+  pub kept : Keeps m session
+  pub plain : HasPlainSet session
   pub dialled : 0 < dialled_of (state_of session).run → ends ≡ dialled_of (state_of session).run
 
 -- no line feed is among the bytes
@@ -89,6 +90,20 @@ abbrev pub has_left : Next → Bool
 has_left next.GoesOn = false
 has_left next.Idle = false
 has_left next.Quit = true
+
+-- how many doings may still come before the command is carried out
+abbrev pub weight : Doing → ℕ
+weight (Say n) = 1
+weight Dial = 4
+weight Wait = 6
+weight (Send v) = 6
+weight HangUp = 1
+weight Idle = 1
+weight Quit = 1
+
+abbrev pub rank : List Doing → ℕ
+rank [] = 0
+rank (d ∷ ds) = weight d + rank ds
 
 -- what is left to be done after a step: less than before, or nothing
 abbrev pub IsAhead : Next → State → State → Type 0

@@ -6,10 +6,10 @@ use Rattle.txs_outside.specs.Known.{Grows, Loses, Tells, Adds}
 use Rattle.txs_outside.specs.declared.sut.SutEntry.{SutEntry}
 use Rattle.txs_drive.specs.declared.driver.Stop.{Stop}
 use Rattle.txs_drive.specs.declared.driver.Stop.TheVariants as stop
-use Rattle.txs_drive.specs.declared.model.Model.{Model}
-use Rattle.txs_drive.specs.declared.session.Session as rust
-use Rattle.txs_drive.specs.Session.{State, at_start, dialled_of}
-use Rattle.txs_drive.specs.inner.Ready.{state_of}
+use Rattle.txs_words.specs.declared.model.Model.{Model}
+use Rattle.txs_session.specs.declared.session.Session as rust
+use Rattle.txs_session.specs.Session.{State, at_start, dialled_of}
+use Rattle.txs_session.specs.Ready.{state_of}
 use Rattle.txs_drive.specs.Course.{Event, Leads, lines_in, notes_in, text_of, has_quit, hung_after, calls_in, due_in, AnyFailed}
 use Rattle.txs_drive.specs.Served.{Ending, open', end, command_lines, byte_limit}
 use Rattle.txs_drive.specs.Cut.{IsTornNote, IsUnheeded, dialled_by}

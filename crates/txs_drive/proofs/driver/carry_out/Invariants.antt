@@ -1,6 +1,6 @@
 use Rattle.std.proofs.Common.{◌≡◌, ◌∷◌, [], false}
-use Rattle.txs_drive.specs.inner.CarriedOut.{CarriedOut, IsReady}
-use Rattle.txs_drive.specs.inner.Ready.{state_of, IsBusy, rank}
+use Rattle.txs_drive.specs.inner.CarriedOut.{CarriedOut, IsReady, rank}
+use Rattle.txs_session.specs.Ready.{state_of, IsBusy}
 use Rattle.txs_drive.specs.Course.{due_in}
 use Rattle.txs_drive.specs.inner.Stopped.{Tracks, ends_in}
 use Rattle.txs_drive.proofs.driver.carry_out.Given as goal

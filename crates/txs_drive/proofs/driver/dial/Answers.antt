@@ -4,7 +4,7 @@ use Rattle.txs_outside.specs.declared.sut.SutEntry.{SutEntry}
 use Rattle.txs_outside.specs.declared.sut.SutCall.TheVariants.{Dial}
 use Rattle.txs_outside.specs.declared.ends.Ends.{Ends}
 use Rattle.txs_drive.specs.Course.{entry, ends_of, dials, due_in}
-use Rattle.txs_drive.specs.inner.Ready.{state_of}
+use Rattle.txs_session.specs.Ready.{state_of}
 use Rattle.txs_drive.proofs.Calls.{called_dial, err_of, ok_of, dial_ready}
 use Rattle.txs_drive.proofs.Stops.{on_err, stopped_here, stopped_unheeded, fresh_none, dial_ends}
 use Rattle.txs_drive.proofs.Told.{dial_undue}

@@ -2,13 +2,13 @@ use Rattle.std.proofs.Common.{◌≡◌, ◌∙◌, [], refl, ap, rules, FitsSig
 use Rattle.std.specs.Int.{w128}
 use Rattle.std.proofs.lemmas.Int.{to_z-of_z}
 use Rattle.txs_drive.specs.declared.driver.Stop.TheVariants.{Sink, NoMemory}
-use Rattle.txs_drive.specs.declared.note.Note.TheVariants.{In}
-use Rattle.txs_drive.specs.Lines.{line_of}
-use Rattle.txs_drive.specs.Session.{State, dialled_of}
-use Rattle.txs_drive.specs.inner.Ready.{state_of}
+use Rattle.txs_session.specs.declared.note.Note.TheVariants.{In}
+use Rattle.txs_session.specs.Lines.{line_of}
+use Rattle.txs_session.specs.Session.{State, dialled_of}
+use Rattle.txs_session.specs.Ready.{state_of}
 use Rattle.txs_drive.proofs.Calls.{dialled_same}
 use Rattle.txs_drive.proofs.Stops.{if_err, stopped_here}
-use Rattle.txs_drive.proofs.Sending.{went_sent, went_unsent, stopped_sent, ends_sent, undue_sent}
+use Rattle.txs_drive.proofs.Sending.{carried_out_sent, carried_out_unsent, stopped_sent, ends_sent, undue_sent}
 use Rattle.txs_drive.specs.Course.{due_in}
 use Rattle.txs_drive.proofs.Told.{unsent_undue}
 use Rattle.txs_drive.proofs.driver.send.Goals as goal
@@ -30,7 +30,7 @@ returns-in_err-prepared-clause-stopped g c =
 
 pub returns-then-not-is_sent-clause-carried_out : goal.returns-then-not-is_sent-clause-carried_out
 returns-then-not-is_sent-clause-carried_out g c =
-    went_unsent c.args.model.now (state_of c.args.session.now) (state_of c.prepare.new.self) (state_of c.transmit-is_sent.new.session) _ _ _ _ _ _ _ c.prepare.ensures.same (c.transmit-is_sent.ensures.called c.args.model.now)
+    carried_out_unsent c.args.model.now (state_of c.args.session.now) (state_of c.prepare.new.self) (state_of c.transmit-is_sent.new.session) _ _ _ _ _ _ _ c.prepare.ensures.same (c.transmit-is_sent.ensures.called c.args.model.now)
 
 pub returns-in_err-say-clause-stopped : goal.returns-in_err-say-clause-stopped
 returns-in_err-say-clause-stopped g c =
@@ -45,7 +45,7 @@ pub returns-clause-carried_out : goal.returns-clause-carried_out
 returns-clause-carried_out g c =
     let fits : FitsSigned w128 c.args.value = c.ranges.value in
     let line : c.as_str-2.result.now ≡ line_of c.args.model.now (In c.number-number.result c.args.value) = search rules in
-    went_sent c.args.model.now (state_of c.args.session.now) (state_of c.prepare.new.self) (state_of c.transmit-is_sent.new.session) (state_of c.next.new.self) _ _ _ _ _ _ _ _ c.args.value c.number-number.result c.transmit-is_sent.result
+    carried_out_sent c.args.model.now (state_of c.args.session.now) (state_of c.prepare.new.self) (state_of c.transmit-is_sent.new.session) (state_of c.next.new.self) _ _ _ _ _ _ _ _ c.args.value c.number-number.result c.transmit-is_sent.result
     c.next.result c.as_str-2.result.now c.prepare.ensures.same (c.transmit-is_sent.ensures.called c.args.model.now) c.if-not-is_sent.false (simp to_z-of_z at c.transmit-is_sent.ensures.told) c.number-number.ensures c.next.ensures.next line
     c.in_ok-say.ensures.ok
 

@@ -1,8 +1,8 @@
 use Rattle.std.proofs.Common.{◌≡◌, [], refl, arith, rules}
-use Rattle.txs_drive.specs.Lines.{line_of}
-use Rattle.txs_drive.specs.inner.Ready.{state_of}
+use Rattle.txs_session.specs.Lines.{line_of}
+use Rattle.txs_session.specs.Ready.{state_of}
 use Rattle.txs_drive.proofs.Calls.{dialled_same}
-use Rattle.txs_drive.proofs.Courses.{went_said, went_hung, went_idle, went_quit}
+use Rattle.txs_drive.proofs.Courses.{carried_out_say, carried_out_hang_up, carried_out_idle, carried_out_quit}
 use Rattle.txs_drive.specs.declared.driver.Stop.TheVariants.{Sink, NoMemory}
 use Rattle.txs_drive.proofs.Stops.{if_err, stopped_here, stopped_torn}
 use Rattle.txs_drive.proofs.Told.{next_undue}
@@ -33,7 +33,7 @@ pub returns-in_ok-say-in-Say-clause-carried_out : goal.returns-in_ok-say-in-Say-
 returns-in_ok-say-in-Say-clause-carried_out g c =
     let n = c.in-Say.ensures.next in
     let line : c.as_str.result.now ≡ line_of c.args.model.now c.in-Say.note = search rules in
-    went_said c.args.model.now (state_of c.args.session.now) (state_of c.next.new.self) _ _ _ _ _ c.in-Say.note n.0 c.as_str.result.now n.1 n.2 line c.in_ok-say-in-Say.ensures.ok
+    carried_out_say c.args.model.now (state_of c.args.session.now) (state_of c.next.new.self) _ _ _ _ _ c.in-Say.note n.0 c.as_str.result.now n.1 n.2 line c.in_ok-say-in-Say.ensures.ok
 
 pub returns-in_ok-say-in-Say-clause-ready : goal.returns-in_ok-say-in-Say-clause-ready
 returns-in_ok-say-in-Say-clause-ready g c = record {
@@ -45,7 +45,7 @@ returns-in_ok-say-in-Say-clause-ready g c = record {
 pub returns-in-HangUp-clause-carried_out : goal.returns-in-HangUp-clause-carried_out
 returns-in-HangUp-clause-carried_out g c =
     let n = c.in-HangUp.ensures.next in
-    went_hung c.args.model.now (state_of c.args.session.now) (state_of c.next.new.self) _ _ _ _ _ _ _ n.0 n.1 n.2 c.hang_up.ensures.calls c.hang_up.ensures.hang_ups c.hang_up.ensures.faults
+    carried_out_hang_up c.args.model.now (state_of c.args.session.now) (state_of c.next.new.self) _ _ _ _ _ _ _ n.0 n.1 n.2 c.hang_up.ensures.calls c.hang_up.ensures.hang_ups c.hang_up.ensures.faults
 
 pub returns-in-HangUp-clause-ready : goal.returns-in-HangUp-clause-ready
 returns-in-HangUp-clause-ready g c = record {
@@ -57,7 +57,7 @@ returns-in-HangUp-clause-ready g c = record {
 pub returns-in-Idle-clause-carried_out : goal.returns-in-Idle-clause-carried_out
 returns-in-Idle-clause-carried_out g c =
     let n = c.in-Idle.ensures.next in
-    went_idle c.args.model.now (state_of c.args.session.now) (state_of c.next.new.self) _ _ _ _ n.0 n.1 n.2
+    carried_out_idle c.args.model.now (state_of c.args.session.now) (state_of c.next.new.self) _ _ _ _ n.0 n.1 n.2
 
 pub returns-in-Idle-clause-ready : goal.returns-in-Idle-clause-ready
 returns-in-Idle-clause-ready g c = record {
@@ -69,7 +69,7 @@ returns-in-Idle-clause-ready g c = record {
 pub returns-in-Quit-clause-carried_out : goal.returns-in-Quit-clause-carried_out
 returns-in-Quit-clause-carried_out g c =
     let n = c.in-Quit.ensures.next in
-    went_quit c.args.model.now (state_of c.args.session.now) (state_of c.next.new.self) _ _ _ _ n.0 n.1 n.2
+    carried_out_quit c.args.model.now (state_of c.args.session.now) (state_of c.next.new.self) _ _ _ _ n.0 n.1 n.2
 
 pub returns-in-Quit-clause-ready : goal.returns-in-Quit-clause-ready
 returns-in-Quit-clause-ready g c = record {

@@ -5,8 +5,8 @@ use Rattle.txs_outside.specs.Known.{Adds}
 use Rattle.txs_outside.specs.declared.sut.SutEntry.{SutEntry}
 use Rattle.txs_outside.specs.declared.sut.SutCall.TheVariants.{Send}
 use Rattle.txs_drive.specs.Course.{entry}
-use Rattle.txs_drive.specs.Lines.{sent_line}
-use Rattle.txs_drive.specs.inner.Ready.{state_of}
+use Rattle.txs_session.specs.Lines.{sent_line}
+use Rattle.txs_session.specs.Ready.{state_of}
 use Rattle.txs_drive.proofs.Calls.{called_send, err_of, ok_of}
 use Rattle.txs_drive.proofs.driver.transmit.Goals as goal
 

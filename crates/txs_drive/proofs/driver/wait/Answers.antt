@@ -1,4 +1,4 @@
-use Rattle.txs_drive.specs.inner.Ready.{state_of}
+use Rattle.txs_session.specs.Ready.{state_of}
 use Rattle.txs_drive.proofs.Calls.{called_wait, heeded_rank, dialled_same}
 use Rattle.txs_drive.specs.Course.{waits}
 use Rattle.txs_drive.proofs.Stops.{on_err, stopped_unheeded}

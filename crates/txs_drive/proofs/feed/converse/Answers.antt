@@ -1,7 +1,7 @@
 use Rattle.std.proofs.Common.{◌≡◌, ◌<◌, ◌+◌, ◌∙◌, ℕ, List, arith, ap, length, refl, subst, sym}
 use Rattle.txs_outside.specs.Known.{Grows, Loses}
-use Rattle.txs_drive.specs.Session.{State}
-use Rattle.txs_drive.specs.inner.Ready.{state_of, IsTied}
+use Rattle.txs_session.specs.Session.{State}
+use Rattle.txs_session.specs.Ready.{state_of, IsTied}
 use Rattle.txs_drive.specs.inner.CarriedOut.{HasNoFeed}
 use Rattle.txs_drive.proofs.Talking.{talked_begin, talked_on, conversed_quit, conversed_fault, conversed_limit, conversed_end}
 use Rattle.txs_drive.specs.declared.driver.Stop.TheVariants.{NoMemory}

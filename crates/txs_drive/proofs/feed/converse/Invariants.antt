@@ -1,6 +1,6 @@
 use Rattle.std.proofs.Common.{◌≡◌, ◌≤◌, [], ◌-◌}
 use Rattle.txs_drive.specs.inner.CarriedOut.{IsReady, HasNoFeed}
-use Rattle.txs_drive.specs.inner.Ready.{state_of, IsTied}
+use Rattle.txs_session.specs.Ready.{state_of, IsTied}
 use Rattle.txs_drive.specs.inner.Stopped.{Tracks, ends_in}
 use Rattle.txs_drive.proofs.Talking.{Talked}
 use Rattle.txs_drive.proofs.feed.converse.Given as goal

@@ -1,7 +1,7 @@
 use Rattle.std.proofs.Common.{◌∷◌, ◌++◌, [], List, ℕ, false, refl, subst, sym}
-use Rattle.txs_drive.specs.inner.Ready.{state_of}
+use Rattle.txs_session.specs.Ready.{state_of}
 use Rattle.txs_drive.specs.inner.CarriedOut.{LinesCarriedOut}
-use Rattle.txs_drive.proofs.Feeding.{took_part}
+use Rattle.txs_drive.proofs.Feeding.{no_line_carried_out}
 use Rattle.txs_drive.specs.declared.driver.Stop.TheVariants.{NoMemory}
 use Rattle.txs_drive.proofs.Stops.{if_err, stopped_in_part}
 use Rattle.txs_drive.proofs.feed.take_byte.Goals as goal
@@ -11,7 +11,7 @@ returns-in_ok-push-clause-carried_out g c =
     subst (λ (r : List ℕ). LinesCarriedOut c.args.model.now (state_of c.args.session.now) (state_of c.args.session.now) (g.K.Sink.taken c.args.sink.now) (g.K.Sink.taken c.args.sink.now) (g.U.Sut.calls c.args.sut.now) (g.U.Sut.calls c.args.sut.now)
     (g.U.Sut.hang_ups c.args.sut.now) (g.U.Sut.hang_ups c.args.sut.now) (g.U.Sut.faults c.args.sut.now) (g.U.Sut.faults c.args.sut.now) (c.args.pending.now ++ c.args.byte ∷ []) r false)
     (sym c.in_ok-push.ensures.ok)
-    (took_part c.args.model.now (state_of c.args.session.now) (g.K.Sink.taken c.args.sink.now) (g.U.Sut.calls c.args.sut.now) (g.U.Sut.hang_ups c.args.sut.now) (g.U.Sut.faults c.args.sut.now) (c.args.pending.now ++ c.args.byte ∷ []))
+    (no_line_carried_out c.args.model.now (state_of c.args.session.now) (g.K.Sink.taken c.args.sink.now) (g.U.Sut.calls c.args.sut.now) (g.U.Sut.hang_ups c.args.sut.now) (g.U.Sut.faults c.args.sut.now) (c.args.pending.now ++ c.args.byte ∷ []))
 
 pub returns-in_err-push-clause-stopped : goal.returns-in_err-push-clause-stopped
 returns-in_err-push-clause-stopped g c =

@@ -1,6 +1,6 @@
 use Rattle.std.proofs.Common.{◌≡◌, ◌++◌, [], take, false}
 use Rattle.txs_drive.specs.inner.CarriedOut.{LinesCarriedOut, IsReady, HasNoFeed}
-use Rattle.txs_drive.specs.inner.Ready.{state_of, IsTied}
+use Rattle.txs_session.specs.Ready.{state_of, IsTied}
 use Rattle.txs_drive.specs.inner.Stopped.{Tracks, ends_in}
 use Rattle.txs_drive.proofs.feed.take_bytes.Given as goal
 

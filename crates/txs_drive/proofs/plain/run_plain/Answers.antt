@@ -1,7 +1,7 @@
 use Rattle.std.proofs.Common.{◌∙◌, ℕ, Bool, ap}
 use Rattle.txs_drive.specs.Course.{hung_after}
 use Rattle.txs_drive.specs.Served.{last_of}
-use Rattle.txs_drive.specs.inner.Ready.{state_of}
+use Rattle.txs_session.specs.Ready.{state_of}
 use Rattle.txs_drive.specs.inner.CarriedOut.{code_of}
 use Rattle.txs_drive.proofs.Serving.{served}
 use Rattle.txs_drive.specs.inner.Stopped.{ends_in}

@@ -1,6 +1,6 @@
 use Rattle.std.proofs.Common.{inl, inr, ℕ, List, refl, sym, subst, arith}
-use Rattle.txs_drive.specs.declared.model.Model.{Model}
-use Rattle.txs_drive.specs.File.{IsFile, StatesOnly}
+use Rattle.txs_words.specs.declared.model.Model.{Model}
+use Rattle.txs_words.specs.File.{IsFile, StatesOnly}
 use Rattle.txs_top.proofs.Pairs.{not-four, not-five, unlike, above}
 use Rattle.txs_top.proofs.program.run.Goals as goal
 
