@@ -18,23 +18,20 @@ fn in_line(alloc: Global, model: &Model, number: usize, value: i128) -> Result<T
     ensures { IfOk result (λ t. t ≡ Lines.line_of model.now (Note.In number value)) }
 {
     let channel = model.input.as_str();
-    Text::from_string(alloc, format!(in alloc; "{number} IN {channel}!{value}\n")?)
+    Ok(Text::from_string(alloc, format!(in alloc; "{number} IN {channel}!{value}\n")?)?)
 }
 
 fn out_line(alloc: Global, model: &Model, number: usize, value: i128) -> Result<Text, NoMemory>
     ensures { IfOk result (λ t. t ≡ Lines.line_of model.now (Note.Out number value)) }
 {
     let channel = model.output.as_str();
-    Text::from_string(
-        alloc,
-        format!(in alloc; "{number} OUT {channel}!{value}\n")?,
-    )
+    Ok(Text::from_string(alloc, format!(in alloc; "{number} OUT {channel}!{value}\n")?)?)
 }
 
 fn quiet_line(alloc: Global, number: usize) -> Result<Text, NoMemory>
     ensures { IfOk result (λ t. t ≡ decimal number ++ codes " OUT QUIET" ++ codes "\n") }
 {
-    Text::from_string(alloc, format!(in alloc; "{number} OUT QUIET\n")?)
+    Ok(Text::from_string(alloc, format!(in alloc; "{number} OUT QUIET\n")?)?)
 }
 
 fn ending_line(ending: Ending) -> &'static str
