@@ -25,7 +25,10 @@ fn out_line(alloc: Global, model: &Model, number: usize, value: i128) -> Result<
     ensures { IfOk result (λ t. t ≡ Lines.line_of model.now (Note.Out number value)) }
 {
     let channel = model.output.as_str();
-    Ok(Text::from_string(alloc, format!(in alloc; "{number} OUT {channel}!{value}\n")?)?)
+    Ok(Text::from_string(
+        alloc,
+        format!(in alloc; "{number} OUT {channel}!{value}\n")?,
+    )?)
 }
 
 fn quiet_line(alloc: Global, number: usize) -> Result<Text, NoMemory>
