@@ -10,30 +10,31 @@ fn tester_line(alloc: Global, model: &Model) -> Result<Text, NoMemory>
     ensures { IfOk result (λ t. t ≡ Lines.line_of model.now Note.Tester) }
 {
     let name = model.name.as_str();
-    Text::from_string(alloc, format!(in alloc; "TESTER {name}\n")?)
+    let text = format!(in alloc; "TESTER {name}\n")?;
+    Ok(Text::from_string(alloc, text)?)
 }
 
 fn in_line(alloc: Global, model: &Model, number: usize, value: i128) -> Result<Text, NoMemory>
     ensures { IfOk result (λ t. t ≡ Lines.line_of model.now (Note.In number value)) }
 {
     let channel = model.input.as_str();
-    Text::from_string(alloc, format!(in alloc; "{number} IN {channel}!{value}\n")?)
+    let text = format!(in alloc; "{number} IN {channel}!{value}\n")?;
+    Ok(Text::from_string(alloc, text)?)
 }
 
 fn out_line(alloc: Global, model: &Model, number: usize, value: i128) -> Result<Text, NoMemory>
     ensures { IfOk result (λ t. t ≡ Lines.line_of model.now (Note.Out number value)) }
 {
     let channel = model.output.as_str();
-    Text::from_string(
-        alloc,
-        format!(in alloc; "{number} OUT {channel}!{value}\n")?,
-    )
+    let text = format!(in alloc; "{number} OUT {channel}!{value}\n")?;
+    Ok(Text::from_string(alloc, text)?)
 }
 
 fn quiet_line(alloc: Global, number: usize) -> Result<Text, NoMemory>
     ensures { IfOk result (λ t. t ≡ decimal number ++ codes " OUT QUIET" ++ codes "\n") }
 {
-    Text::from_string(alloc, format!(in alloc; "{number} OUT QUIET\n")?)
+    let text = format!(in alloc; "{number} OUT QUIET\n")?;
+    Ok(Text::from_string(alloc, text)?)
 }
 
 fn ending_line(ending: Ending) -> &'static str
@@ -65,5 +66,6 @@ pub(crate) fn line_of(alloc: Global, model: &Model, note: Note) -> Result<Text, 
 pub(crate) fn sent_line(alloc: Global, value: i128) -> Result<Text, NoMemory>
     ensures { IfOk result (λ t. t ≡ Lines.sent_line value) }
 {
-    Text::from_string(alloc, format!(in alloc; "{value}\n")?)
+    let text = format!(in alloc; "{value}\n")?;
+    Ok(Text::from_string(alloc, text)?)
 }
