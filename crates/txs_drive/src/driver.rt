@@ -4,7 +4,7 @@ ghost use Rattle.txs_outside.specs.Known.{Grows};
 ghost use Rattle.txs_terms.specs.Sets.{IsPlain};
 ghost use Rattle.txs_terms.specs.View.{term_of};
 ghost use Rattle.txs_session.specs.Session.{dialled_of, send_told};
-ghost use Rattle.txs_session.specs.Ready.{state_of, IsBusy, IsGoing, IsFresh, IsTied, HasPlainSet, IsPrepared, Keeps, ToldBy};
+ghost use Rattle.txs_session.specs.Ready.{state_of, next_number, IsBusy, IsGoing, IsFresh, IsTied, HasPlainSet, IsPrepared, Keeps, ToldBy};
 ghost use Rattle.txs_session.specs.Lines;
 ghost use Rattle.txs_drive.specs.Course.{ends_of, due_in};
 ghost use Rattle.txs_drive.specs.Cut.{Torn};
@@ -15,7 +15,7 @@ use sqlite_items::Items;
 use std::alloc::Global;
 use txs_outside::{End, Ends, Failed, Sink, Sut};
 use txs_session::{Answer, Doing, Note, Prepared, Session, answer_of, line_of, sent_line};
-use txs_values::NoMemory;
+use txs_values::{NoMemory, Text};
 use txs_words::Model;
 
 /// Why a session stops before its commands are carried out.
@@ -173,6 +173,43 @@ fn transmit<U: Sut>(
     ok
 }
 
+/// What is needed to send an action, found before it is sent.
+#[derive(Drop)]
+struct Outgoing {
+    /// The line that is sent.
+    line: Text,
+    /// The line that says that it was sent.
+    said: Text,
+    prepared: Prepared,
+}
+
+/// Finds all memory that an action needs.
+fn find_memory(
+    alloc: Global,
+    model: &Model,
+    session: &mut Session,
+    value: i128,
+) -> Result<Outgoing, NoMemory>
+    requires going { IsGoing (state_of session.old).run }
+    requires plain { HasPlainSet session.old }
+    ensures line { IfOk result (λ o. o.line ≡ Lines.sent_line value) }
+    ensures said { IfOk result (λ o. o.said ≡ Lines.line_of model.now (Note.In (next_number (state_of session.old).run) value)) }
+    ensures prepared { IfOk result (λ o. IsPrepared value session.new o.prepared) }
+    ensures same { state_of session.new ≡ state_of session.old }
+    ensures kept { (m : Model) → Keeps m session.old → Keeps m session.new }
+    ensures plain { HasPlainSet session.new }
+{
+    let line = sent_line(alloc, value)?;
+    let number = session.number();
+    let said = line_of(alloc, model, Note::In { number, value })?;
+    let prepared = session.prepare(alloc, value)?;
+    Ok(Outgoing {
+        line,
+        said,
+        prepared,
+    })
+}
+
 /// Sends the line of an action and, if it was sent, writes the line that says so. All memory is found before
 /// it is sent.
 fn send<K: Sink, U: Sut>(
@@ -197,10 +234,11 @@ fn send<K: Sink, U: Sut>(
     ensures sink { FailsLast (K.faults sink.old) (K.faults sink.new) (K.has_failed sink.new) (IsErrOf result Stop.Sink) }
     ensures calm { result ≢ Err Stop.Sink → K.faults sink.new ≡ K.faults sink.old }
 {
-    let line = sent_line(alloc, value)?;
-    let number = session.number();
-    let said = line_of(alloc, model, Note::In { number, value })?;
-    let prepared = session.prepare(alloc, value)?;
+    let Outgoing {
+        line,
+        said,
+        prepared,
+    } = find_memory(alloc, model, session, value)?;
     let is_sent = transmit(session, value, line.as_str(), prepared, sut);
     if !is_sent {
         return Ok(());

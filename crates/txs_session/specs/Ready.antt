@@ -35,6 +35,7 @@ abbrev pub KeepsRun : Model → Option rust_run.Run → Type 0
 KeepsRun m None = Unit {0}
 KeepsRun m (Some r) = IsKept m r
 
+-- the same of a session's run, if it has one
 abbrev pub Keeps : Model → rust.Session → Type 0
 Keeps m session = KeepsRun m session.run
 
@@ -43,6 +44,7 @@ abbrev pub IsPlainRun : Option rust_run.Run → Type 0
 IsPlainRun None = Unit {0}
 IsPlainRun (Some r) = ArePlain (terms_of r.set)
 
+-- the same of a session's run, if it has one
 abbrev pub HasPlainSet : rust.Session → Type 0
 HasPlainSet session = IsPlainRun session.run
 
