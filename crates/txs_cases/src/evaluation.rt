@@ -2,8 +2,8 @@ ghost use Rattle.std.specs.Prelude.{◌≡◌, [], IfOk, IsTrue, Some};
 ghost use Rattle.txs_values.specs.Value.{Ty as TheType};
 ghost use Rattle.txs_terms.specs.View.{definitions_of, expr_of};
 ghost use Rattle.txs_eval.specs.Answer.{IsTyped};
-ghost use Rattle.txs_types.specs.Files.{IsNeed};
-ghost use Rattle.txs_types.specs.Answer.{want_of};
+ghost use Rattle.txs_typing.specs.Answer.{IsNeed};
+ghost use Rattle.txs_typing.specs.Answer.{want_of};
 
 use crate::definitions::definitions_of;
 use crate::reader::declarations_of;

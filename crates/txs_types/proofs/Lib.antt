@@ -1,6 +1,4 @@
 pub mod Laws
-pub mod trees
-pub mod judging
 pub mod lists
 pub mod naming
 pub mod files

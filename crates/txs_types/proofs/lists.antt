@@ -1,5 +1,4 @@
 -- Loops over lists, and lists that are put together.
 pub mod Gathering
-pub mod Lookups
 pub mod Deciding
 pub mod Collecting

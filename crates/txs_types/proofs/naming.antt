@@ -1,4 +1,3 @@
 -- Names: tests of texts, loops over names, names that stand once.
-pub mod Tests
 pub mod Loops
 pub mod Distinct

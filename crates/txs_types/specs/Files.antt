@@ -1,10 +1,9 @@
 -- What offends in a file, and the definitions that a file without an offence means.
-use Rattle.std.specs.Prelude.{◌≡◌, ◌⊎◌, ◌≤◌, ◌<◌, ℕ, suc, ◌+◌, Bool, true, false, ◌||◌, cond, bytes_eq, codes, List, [], ◌∷◌, ◌++◌, length, map, Option, Some, None, slice_get}
+use Rattle.std.specs.Prelude.{◌≡◌, ◌⊎◌, ◌<◌, ℕ, suc, ◌+◌, Bool, true, false, ◌||◌, cond, bytes_eq, codes, List, [], ◌∷◌, ◌++◌, length, map, Option, Some, None, slice_get}
 use Rattle.txs_values.specs.Value.{Ty, integer, truth, string, named, Value, Constructor, Table, field_types, Place, place_of, size, height, value_size_limit, value_height_limit}
 use Rattle.txs_values.specs.Spelled.{IsName}
 use Rattle.txs_values.specs.Default.{default_if}
 use Rattle.txs_terms.specs.Expr.{Expr}
-use Rattle.txs_terms.specs.Typed.{IsType}
 use Rattle.txs_terms.specs.Defs.{Function, Constant, Definitions}
 use Rattle.txs_syntax.specs.declared.ast.Name.{Name}
 use Rattle.txs_syntax.specs.declared.ast.Ast.{Ast}
@@ -14,9 +13,9 @@ use Rattle.txs_syntax.specs.declared.file.Def.TheVariants as def
 use Rattle.txs_syntax.specs.declared.file.ConDef.{ConDef}
 use Rattle.txs_syntax.specs.declared.file.DeclList.{DeclList}
 use Rattle.txs_syntax.specs.declared.file.Decl.{Decl}
-use Rattle.txs_types.specs.Names.{Variable, Global, Scope, scope_over, named_function, named_constant, built_ins, test_name, constructor_globals}
-use Rattle.txs_types.specs.Elaborates.{Elaborates}
-use Rattle.txs_types.specs.Offends.{Offence, twice, unknown, arity, mismatch, empty_type, big_type, Offends}
+use Rattle.txs_typing.specs.Names.{Variable, Global, Scope, scope_over, named_function, named_constant, built_ins, test_name, constructor_globals}
+use Rattle.txs_typing.specs.Elaborates.{Elaborates}
+use Rattle.txs_typing.specs.Offends.{Offence, twice, unknown, empty_type, big_type, Offends}
 
 -- ---- types and tables
 
@@ -236,11 +235,6 @@ query_scope d list = scope_over d (variables_of (names_of d.table) list)
 abbrev pub declared_types : Definitions → DeclList → List Ty
 declared_types d list = field_types (variables_of (names_of d.table) list)
 
--- the type that is needed, if one is, is of the table
-abbrev pub IsNeed : Table → Option Ty → Type 0
-IsNeed table None = Unit {0}
-IsNeed table (Some t) = IsType table t
-
 -- over definitions and declared variables the tree means this expression, of this type
 abbrev pub QueryMeans : Definitions → DeclList → Option Ty → Ast → Expr → Ty → Type 0
 QueryMeans d list want tree e t = Elaborates (query_scope d list) want tree e t
@@ -251,31 +245,3 @@ pub data QueryOffends (d : Definitions) (list : DeclList) (want : Option Ty) (tr
   unknown_declared : (j : ℕ) {n : Name} → slice_get (types_used list.decls) j ≡ Some n → is_undefined (names_of d.table) n ≡ true
       → QueryOffends d list want tree (unknown n.at)
   in_expression : {o : Offence} → Offends (query_scope d list) want tree o → QueryOffends d list want tree o
-
--- ---- which of several decides
-
--- the order of offences at one offset
-abbrev pub rank : Offence → ℕ
-rank (twice at) = 0
-rank (unknown at) = 1
-rank (arity at) = 2
-rank (mismatch at) = 3
-rank (empty_type at) = 4
-rank (big_type at) = 5
-
-abbrev pub offset : Offence → ℕ
-offset (twice at) = at
-offset (unknown at) = at
-offset (arity at) = at
-offset (mismatch at) = at
-offset (empty_type at) = at
-offset (big_type at) = at
-
--- the first stands no later than the second
-abbrev pub NotAfter : Offence → Offence → Type 0
-NotAfter o p = (offset o < offset p) ⊎ (offset o ≡ offset p) × (rank o ≤ rank p)
-
--- of the offences that stand, this one decides
-pub record Decides (Stands : Offence → Type 0) (o : Offence) : Type 0 where
-  pub stands : Stands o
-  pub first : (p : Offence) → Stands p → NotAfter o p

@@ -1,6 +1,2 @@
-pub mod Names
-pub mod Elaborates
-pub mod Offends
 pub mod Files
-pub mod Answer
 pub mod inner

@@ -1,7 +1,4 @@
--- What only contracts of functions within the crate cite: of the steps of typing, what each gives. No public contract stands on these.
-pub mod View
-pub mod Told
-pub mod Parts
+-- What only contracts of functions within the crate cite. No public contract stands on these.
 pub mod Among
 pub mod Counted
 pub mod Collected

@@ -5,18 +5,14 @@ ghost use Rattle.txs_types.specs.inner.Among.{IsOfFile};
 ghost use Rattle.txs_types.specs.inner.Collected.{FunctionIn, FunctionsCollected, ConstantIn, ConstantsCollected, IsAdded};
 
 use crate::declarations::{type_of, variables_of};
-use crate::expression::expression;
-use crate::fault::TypeFault;
 use crate::file_names::add_definitions;
 use crate::global_names::{built_ins, types_of};
 use crate::least::least;
-use crate::meaning::GlobalNames;
-use crate::numbers::number_of;
-use crate::scope::Scope;
 use sqlite_items::Items;
 use std::alloc::Global;
 use txs_syntax::{Ast, DeclList, Def, File, Name};
 use txs_terms::{ConstantDef, FunctionDef};
+use txs_typing::{GlobalNames, Scope, TypeFault, elaborate, number_of};
 use txs_values::NoMemory;
 
 /// The functions, or the constants, so far, and the fault that decides in the others.
@@ -59,7 +55,7 @@ fn function(
     let name = name.text.copy(alloc)?;
     let mut list = Items::new(alloc);
     scope.slots = variables;
-    let typed = expression(alloc, scope, Some(gives), body)?;
+    let typed = elaborate(alloc, scope, Some(gives), body)?;
     list.push(FunctionDef {
         name,
         takes,
@@ -133,7 +129,7 @@ fn constant(
     let name = name.text.copy(alloc)?;
     let mut list = Items::new(alloc);
     scope.slots = Items::new(alloc);
-    let typed = expression(alloc, scope, Some(ty), body)?;
+    let typed = elaborate(alloc, scope, Some(ty), body)?;
     list.push(ConstantDef {
         name,
         ty,

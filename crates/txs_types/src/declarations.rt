@@ -1,16 +1,15 @@
 ghost use Rattle.std.specs.Prelude.{◌≡◌, ◌++◌, ◌∷◌, [], IfOk, IfSome, OnOk, map};
 ghost use Rattle.txs_values.specs.View.{ty_of};
 ghost use Rattle.txs_values.specs.TableView.{field_of};
-ghost use Rattle.txs_types.specs.declared.fault.TypeFault.TheVariants as fault;
+ghost use Rattle.txs_typing.specs.declared.fault.TypeFault.TheVariants as fault;
 ghost use Rattle.txs_types.specs.Files as files;
 ghost use Rattle.txs_types.specs.inner.Among.{FindsUndefined};
 
-use crate::fault::TypeFault;
 use crate::least::least;
-use crate::numbers::number_of;
 use sqlite_items::Items;
 use std::alloc::Global;
 use txs_syntax::{ConDef, DeclList, Name};
+use txs_typing::{TypeFault, number_of};
 use txs_values::{FieldDef, FieldDefs, NoMemory, Text, Ty};
 
 /// The number of the type of this name; if there is none, the number after the last.

@@ -2,20 +2,20 @@ ghost use Rattle.std.specs.Prelude.{◌≡◌, IfOk, IfErr};
 ghost use Rattle.txs_terms.specs.View.{definitions_of};
 ghost use Rattle.txs_types.specs.Files as files;
 ghost use Rattle.txs_types.specs.Files.{FileOffends, IsMeant, FileHasNames};
-ghost use Rattle.txs_types.specs.Offends.{Offence};
-ghost use Rattle.txs_types.specs.Answer.{Told, AreSafe};
-ghost use Rattle.txs_types.specs.inner.Told.{Finds};
+ghost use Rattle.txs_typing.specs.Offends.{Offence};
+ghost use Rattle.txs_typing.specs.Answer.{Told, AreSafe};
+ghost use Rattle.txs_typing.specs.inner.Told.{Finds};
 ghost use Rattle.txs_types.specs.inner.Among.{InNames, OutsideBodies};
 
 use crate::bodies::{constants_of, functions_of, scope_of_file};
 use crate::definitions::type_names;
-use crate::fault::TypeFault;
 use crate::file_types::{excused, table_of};
 use crate::least::least;
 use crate::offences::{bad_type, twice_name, twice_parameter, twice_type, unknown_type};
 use std::alloc::Global;
 use txs_syntax::{File, Name};
 use txs_terms::Defs;
+use txs_typing::TypeFault;
 use txs_values::NoMemory;
 
 fn fault_in_names(alloc: Global, types: &[Name], file: &File) -> Result<Option<TypeFault>, NoMemory>

@@ -1,19 +1,18 @@
 ghost use Rattle.std.specs.Prelude.{◌≡◌, IfOk, OnOk, [], ◌∷◌, ◌++◌};
 ghost use Rattle.txs_values.specs.Value.{field_types};
-ghost use Rattle.txs_types.specs.Names as names;
-ghost use Rattle.txs_types.specs.Names.{named_function, named_constant};
+ghost use Rattle.txs_typing.specs.Names as names;
+ghost use Rattle.txs_typing.specs.Names.{named_function, named_constant};
 ghost use Rattle.txs_types.specs.Files as files;
-ghost use Rattle.txs_types.specs.inner.View.{globals_of};
+ghost use Rattle.txs_typing.specs.inner.View.{globals_of};
 ghost use Rattle.txs_types.specs.inner.Counted.{counts_after, globals_from};
 
 use crate::declarations::{type_of, variables_of};
 use crate::file_types::constructors_of;
 use crate::global_names::{add_constructors, add_name, types_of};
-use crate::meaning::{GlobalName, Meaning};
-use crate::numbers::{number_of, place_after};
 use sqlite_items::Items;
 use std::alloc::Global;
 use txs_syntax::{ConDef, DeclList, Def, Name};
+use txs_typing::{GlobalName, Meaning, number_of, place_after};
 use txs_values::NoMemory;
 
 /// How many types, constructors, functions and constants stand before a place.

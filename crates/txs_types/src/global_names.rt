@@ -2,13 +2,12 @@ ghost use Rattle.std.specs.Prelude.{◌≡◌, ◌++◌, ◌∷◌, [], IfOk, On
 ghost use Rattle.txs_values.specs.View.{ty_of};
 ghost use Rattle.txs_values.specs.TableView.{field_of, cons_of, conses_of};
 ghost use Rattle.txs_values.specs.Value.{field_types};
-ghost use Rattle.txs_types.specs.Names as names;
-ghost use Rattle.txs_types.specs.inner.View.{meaning_of, globals_of};
+ghost use Rattle.txs_typing.specs.Names as names;
+ghost use Rattle.txs_typing.specs.inner.View.{meaning_of, globals_of};
 
-use crate::meaning::{GlobalName, Meaning};
-use crate::numbers::number_of;
 use sqlite_items::Items;
 use std::alloc::Global;
+use txs_typing::{GlobalName, Meaning, number_of};
 use txs_values::{ConsDef, FieldDef, NoMemory, Text, Types};
 
 /// Puts a name after the others.

@@ -1,6 +1,6 @@
-ghost use Rattle.txs_types.specs.inner.Told.{Least};
+ghost use Rattle.txs_typing.specs.inner.Told.{Least};
 
-use crate::fault::{TypeFault, lesser};
+use txs_typing::{TypeFault, lesser};
 
 /// That of two faults which decides, if there are any.
 pub fn least(a: Option<TypeFault>, b: Option<TypeFault>) -> Option<TypeFault>

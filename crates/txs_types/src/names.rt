@@ -1,15 +1,15 @@
 ghost use Rattle.std.specs.Prelude.{◌≡◌, IfOk, OnOk, ℕ, List, MatchBool, Some, None, cond, bytes_eq, true};
 ghost use Rattle.std.specs.BTreeSet.{contains_text};
-ghost use Rattle.txs_types.specs.declared.fault.TypeFault.TheVariants as fault;
+ghost use Rattle.txs_typing.specs.declared.fault.TypeFault.TheVariants as fault;
 ghost use Rattle.txs_types.specs.Files.{is_among};
-ghost use Rattle.txs_types.specs.inner.Told.{Finds};
+ghost use Rattle.txs_typing.specs.inner.Told.{Finds};
 ghost use Rattle.txs_types.specs.inner.Among.{IsTwice};
 
-use crate::fault::TypeFault;
 use crate::least::least;
 use std::alloc::Global;
 use std::collections::BTreeSet;
 use txs_syntax::Name;
+use txs_typing::TypeFault;
 use txs_values::{NoMemory, Text};
 
 /// Puts a text among those that stand before.

@@ -3,18 +3,18 @@ ghost use Rattle.txs_values.specs.Value.{Table, named};
 ghost use Rattle.txs_values.specs.Default.{default_if};
 ghost use Rattle.txs_values.specs.Choices.{extent_of, extents_of};
 ghost use Rattle.txs_types.specs.Files as files;
-ghost use Rattle.txs_types.specs.inner.Told.{Finds};
+ghost use Rattle.txs_typing.specs.inner.Told.{Finds};
 ghost use Rattle.txs_types.specs.inner.Among.{Among, AmongDefs, IsTwice, TwiceIn, UnknownIn, BadDefault};
 
 use crate::declarations::{names_in, undefined, undefined_field, undefined_name};
 use crate::definitions::defined_names;
-use crate::fault::TypeFault;
 use crate::global_names::{built_ins, texts_of};
 use crate::least::least;
 use crate::names::repeated;
 use sqlite_items::Items;
 use std::alloc::Global;
 use txs_syntax::{DeclList, Def, Name};
+use txs_typing::TypeFault;
 use txs_values::{
     Extent, NoMemory, Text, TypeTable, VALUE_HEIGHT_LIMIT, VALUE_SIZE_LIMIT, default_extents,
 };

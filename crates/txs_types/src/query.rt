@@ -3,27 +3,23 @@ ghost use Rattle.txs_values.specs.Value.{Ty as TheType};
 ghost use Rattle.txs_terms.specs.Typed.{Of};
 ghost use Rattle.txs_terms.specs.Defs.{signatures_of};
 ghost use Rattle.txs_terms.specs.View.{definitions_of, expr_of};
-ghost use Rattle.txs_types.specs.Files.{query_scope, QueryMeans, QueryOffends, declared_types, names_of, IsNeed};
-ghost use Rattle.txs_types.specs.Offends.{Offence};
-ghost use Rattle.txs_types.specs.Answer.{Told, IsSafe, want_of};
-ghost use Rattle.txs_types.specs.inner.Told.{Finds};
+ghost use Rattle.txs_types.specs.Files.{query_scope, QueryMeans, QueryOffends, declared_types, names_of};
+ghost use Rattle.txs_typing.specs.Answer.{IsNeed, Told, IsSafe, want_of};
+ghost use Rattle.txs_typing.specs.Offends.{Offence};
+ghost use Rattle.txs_typing.specs.inner.Told.{Finds};
 ghost use Rattle.txs_types.specs.inner.Queries.{InDeclarations, Decided};
 ghost use Rattle.txs_values.specs.TableView.{table_of};
-ghost use Rattle.txs_types.specs.inner.View.{scope_of};
+ghost use Rattle.txs_typing.specs.inner.View.{scope_of};
 
 use crate::declarations::{names_in, undefined, variables_of};
-use crate::expression::expression;
-use crate::fault::{TypeFault, lesser};
 use crate::least::least;
 use crate::names::repeated;
-use crate::numbers::number_of;
-use crate::scope::Scope;
 use crate::table_names::global_names;
-use crate::typed::Typed;
 use sqlite_items::Items;
 use std::alloc::Global;
 use txs_syntax::{Ast, DeclList, Name};
 use txs_terms::{Defs, Expr};
+use txs_typing::{Scope, TypeFault, Typed, elaborate, lesser, number_of};
 use txs_values::{NoMemory, Ty, TypeDef};
 
 /// The names of the types of a table. Of their offsets nothing is asked.
@@ -102,5 +98,5 @@ pub fn type_query(
     let types = names_of_table(alloc, defs.table().as_slice())?;
     let declared = declaration_fault(alloc, types.as_slice(), decls)?;
     let mut scope = scope_over(alloc, defs, types.as_slice(), decls)?;
-    decided(declared, expression(alloc, &mut scope, want, tree))
+    decided(declared, elaborate(alloc, &mut scope, want, tree))
 }

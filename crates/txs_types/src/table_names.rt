@@ -1,15 +1,14 @@
 ghost use Rattle.std.specs.Prelude.{◌≡◌, ◌++◌, [], IfOk, OnOk, map};
 ghost use Rattle.txs_values.specs.TableView.{table_of};
 ghost use Rattle.txs_terms.specs.View.{function_of, constant_of, definitions_of};
-ghost use Rattle.txs_types.specs.Names as names;
-ghost use Rattle.txs_types.specs.inner.View.{globals_of};
+ghost use Rattle.txs_typing.specs.Names as names;
+ghost use Rattle.txs_typing.specs.inner.View.{globals_of};
 
 use crate::global_names::{add_constructors, add_name, built_ins};
-use crate::meaning::{GlobalName, GlobalNames, Meaning};
-use crate::numbers::{number_of, place_after};
 use sqlite_items::Items;
 use std::alloc::Global;
 use txs_terms::{ConstantDef, Defs, FunctionDef};
+use txs_typing::{GlobalName, GlobalNames, Meaning, number_of, place_after};
 use txs_values::{NoMemory, TypeDef};
 
 /// Puts the names of the types of a table after the others.

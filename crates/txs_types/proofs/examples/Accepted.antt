@@ -1,8 +1,7 @@
 -- A small file in which nothing offends: FUNCDEF f ( n :: Int ) :: Int ::= IF n == 0 THEN 0 ELSE f(n - 1) FI ENDDEF. Its definitions are well typed.
 use Rattle.std.proofs.Common.{◌≡◌, ℕ, zero, suc, Bool, true, false, ◌&&◌, ap, sym, subst, ◌∙◌, List, [], ◌∷◌, slice_get, codes, Some, refl, true≢false}
-use Rattle.txs_values.specs.Value.{fits}
+use Rattle.txs_values.specs.Value.{fits, Ty}
 use Rattle.std.specs.Prelude.{pos}
-use Rattle.txs_values.specs.Value.{Ty}
 use Rattle.txs_terms.specs.Expr.{Expr}
 use Rattle.txs_syntax.specs.declared.file.File.{File}
 use Rattle.txs_syntax.specs.declared.ast.Op.TheVariants as op
@@ -13,13 +12,13 @@ use Rattle.txs_syntax.specs.declared.ast.Ast.{Ast}
 use Rattle.txs_syntax.specs.declared.file.Def.{Def}
 use Rattle.txs_syntax.specs.declared.file.Def.TheVariants as def
 use Rattle.txs_syntax.specs.declared.file.DeclList.{DeclList}
-use Rattle.txs_types.specs.Elaborates.{Elaborates, HasInts, ints_step}
-use Rattle.txs_types.specs.Offends.{Offence, Offends}
+use Rattle.txs_typing.specs.Elaborates.{Elaborates, HasInts, ints_step}
+use Rattle.txs_typing.specs.Offends.{Offence, Offends}
 use Rattle.txs_types.specs.Files.{names_in, type_names, variables_of, type_of, types_named, is_undefined, scope_in, Repeats, here, further, twice_type, twice_name, twice_parameter, unknown_type, no_value, big_default, in_function, in_constant, AreFunctions, a_function, FileHasNames}
 use Rattle.txs_types.proofs.Laws.{FileHasInts}
-use Rattle.txs_types.proofs.trees.Folds.{fold_number, fold_name, fold_call, fold_binary, fold_if}
-use Rattle.txs_types.proofs.trees.Unique.{some_injective}
-use Rattle.txs_types.proofs.trees.NotBoth.{none≢some, never, clean}
+use Rattle.txs_typing.proofs.trees.Folds.{fold_number, fold_name, fold_call, fold_binary, fold_if}
+use Rattle.txs_typing.proofs.trees.Unique.{some_injective}
+use Rattle.txs_typing.proofs.trees.NotBoth.{none≢some, never, clean}
 use Rattle.txs_types.proofs.files.Tables.{NoOffence}
 use Rattle.txs_types.proofs.examples.Small.{word, n_is_int, body_of_f, digit, less_one, n_is_zero, f_again, f_file, f_meant, f_is_meant}
 use Rattle.txs_types.proofs.files.Defined.{meant_is_defined}

@@ -5,7 +5,7 @@ use Rattle.txs_syntax.specs.declared.ast.Name.{Name}
 use Rattle.txs_syntax.specs.declared.file.File.{File}
 use Rattle.txs_syntax.specs.declared.file.Def.{Def}
 use Rattle.txs_syntax.specs.declared.file.Def.TheVariants as def
-use Rattle.txs_types.specs.Offends.{big_type}
+use Rattle.txs_typing.specs.Offends.{big_type}
 use Rattle.txs_types.specs.Files.{FileOffends, big_default}
 
 abbrev word : ℕ → List ℕ → Name

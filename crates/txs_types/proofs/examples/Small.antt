@@ -11,10 +11,10 @@ use Rattle.txs_syntax.specs.declared.ast.Ast.TheVariants as tree
 use Rattle.txs_syntax.specs.declared.file.File.{File}
 use Rattle.txs_syntax.specs.declared.file.Def.TheVariants as def
 use Rattle.txs_syntax.specs.declared.file.DeclList.{DeclList}
-use Rattle.txs_types.proofs.trees.Folds.{fold_number, fold_text, fold_if, fold_name, fold_call, fold_binary, fold_group, fold_let, fold_negate}
-use Rattle.txs_types.specs.Names.{Scope, Fits, anything, inside, scope_over}
-use Rattle.txs_types.specs.Elaborates.{outside_step, from_outside, right_first, Elaborates, number, quoted, name, call, operated, compared, compared_back, chosen, nothing, one_more, equal_comparison, minus_operator, plus_operator, function_made, from_string_made}
-use Rattle.txs_types.specs.Offends.{start, start_step, keeps_need_step, twice, unknown, arity, mismatch, empty_type, Offends, Shows, stands, as_anything, else_branch, unknown_name, wrong_number, other_type, from_nowhere, grouped}
+use Rattle.txs_typing.proofs.trees.Folds.{fold_number, fold_text, fold_if, fold_name, fold_call, fold_binary, fold_group, fold_let, fold_negate}
+use Rattle.txs_typing.specs.Names.{Scope, Fits, anything, inside, scope_over}
+use Rattle.txs_typing.specs.Elaborates.{outside_step, from_outside, right_first, Elaborates, number, quoted, name, call, operated, compared, compared_back, chosen, nothing, one_more, equal_comparison, minus_operator, plus_operator, function_made, from_string_made}
+use Rattle.txs_typing.specs.Offends.{start, start_step, keeps_need_step, twice, unknown, arity, mismatch, empty_type, Offends, Shows, stands, as_anything, else_branch, unknown_name, wrong_number, other_type, from_nowhere, grouped}
 use Rattle.txs_types.specs.Files.{scope_in, FileOffends, here, further, twice_type, twice_name, twice_parameter, unknown_type, no_value, in_constant, IsMeant, a_function, no_function, no_constant, function_between}
 
 abbrev pub word : ℕ → List ℕ → Name

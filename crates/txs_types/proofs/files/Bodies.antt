@@ -12,18 +12,18 @@ use Rattle.txs_syntax.specs.declared.file.File.{File}
 use Rattle.txs_syntax.specs.declared.file.Def.{Def}
 use Rattle.txs_syntax.specs.declared.file.Def.TheVariants as def
 use Rattle.txs_syntax.specs.declared.file.DeclList.{DeclList}
-use Rattle.txs_types.specs.declared.fault.TypeFault.{TypeFault}
-use Rattle.txs_types.specs.declared.scope.Scope as rust_scope
+use Rattle.txs_typing.specs.declared.fault.TypeFault.{TypeFault}
+use Rattle.txs_typing.specs.declared.scope.Scope as rust_scope
 use Rattle.txs_types.specs.declared.bodies.Collected as rust_collected
-use Rattle.txs_types.specs.Names.{Scope, Global, Variable, built_ins}
-use Rattle.txs_types.specs.Elaborates.{Elaborates}
-use Rattle.txs_types.specs.Offends.{Offence}
+use Rattle.txs_typing.specs.Names.{Scope, Global, Variable, built_ins}
+use Rattle.txs_typing.specs.Elaborates.{Elaborates}
+use Rattle.txs_typing.specs.Offends.{Offence}
 use Rattle.txs_types.specs.Files.{type_names, type_of, variables_of, globals_in, scope_in, AreFunctions, no_function, a_function, AreFunctions.type_between, constant_between, AreConstants, no_constant, a_constant, AreConstants.type_between as type_by, function_between}
-use Rattle.txs_types.specs.inner.Told.{Finds}
-use Rattle.txs_types.specs.inner.View.{scope_of}
+use Rattle.txs_typing.specs.inner.Told.{Finds}
+use Rattle.txs_typing.specs.inner.View.{scope_of}
 use Rattle.txs_types.specs.inner.Among.{AmongDefs, InFunction, InConstant, FunctionsHaveInts, ConstantsHaveInts, IsOfFile}
 use Rattle.txs_types.specs.inner.Collected.{FunctionsMeant, ConstantsMeant, FunctionIn, ConstantIn, FunctionsCollected, ConstantsCollected, Judged, IsAdded, IsCollected}
-use Rattle.txs_types.proofs.trees.NotBoth.{none≢some, not_both}
+use Rattle.txs_typing.proofs.trees.NotBoth.{none≢some, not_both}
 use Rattle.txs_types.proofs.lists.Gathering.{taken_more}
 use Rattle.txs_types.proofs.lists.Deciding.{least_none, least_right, among_least, among_none}
 

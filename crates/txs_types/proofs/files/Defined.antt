@@ -10,14 +10,15 @@ use Rattle.txs_syntax.specs.declared.ast.Name.{Name}
 use Rattle.txs_syntax.specs.declared.file.File.{File}
 use Rattle.txs_syntax.specs.declared.file.Def.{Def}
 use Rattle.txs_syntax.specs.declared.file.Def.TheVariants as def
-use Rattle.txs_types.specs.Names.{Variable, built_ins, constructor_globals}
-use Rattle.txs_types.specs.Elaborates.{HasInts}
+use Rattle.txs_typing.specs.Names.{Variable, built_ins, constructor_globals}
+use Rattle.txs_typing.specs.Elaborates.{HasInts}
 use Rattle.txs_types.specs.Files.{type_names, type_of, variables_of, constructor_of, constructors_of, table_in, table_of, globals_in, scope_in, types_used, AreFunctions, no_function, a_function, AreFunctions.type_between, constant_between, AreConstants, no_constant, a_constant, AreConstants.type_between as type_by, function_between, FileHasNames}
-use Rattle.txs_types.proofs.Laws.{HasTypes, FileHasInts, MeantIsDefined}
-use Rattle.txs_types.proofs.trees.Unique.{some_injective}
-use Rattle.txs_types.proofs.trees.NotBoth.{none≢some}
-use Rattle.txs_types.proofs.trees.Globals.{AreGood, good_append, good_constructors, place_after}
-use Rattle.txs_types.proofs.trees.WellTyped.{Sound, typed, at_need}
+use Rattle.txs_typing.proofs.Laws.{HasTypes}
+use Rattle.txs_types.proofs.Laws.{FileHasInts, MeantIsDefined}
+use Rattle.txs_typing.proofs.trees.Unique.{some_injective}
+use Rattle.txs_typing.proofs.trees.NotBoth.{none≢some}
+use Rattle.txs_typing.proofs.trees.Globals.{AreGood, good_append, good_constructors, place_after}
+use Rattle.txs_typing.proofs.trees.WellTyped.{Sound, typed, at_need}
 use Rattle.txs_types.proofs.files.Meaning.{function_of, constant_of, definitions_of, IsRest, head_of, tail_of, all_of}
 use Rattle.txs_types.proofs.files.Tables.{NoOffence, AllKnown, all_known, same_length, known_type, known_variables, known_places, has_default, defined_left, defined_right}
 use Rattle.txs_types.proofs.naming.Distinct.{distinct_names}

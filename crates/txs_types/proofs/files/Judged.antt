@@ -16,10 +16,10 @@ use Rattle.txs_syntax.specs.declared.ast.Ast.{Ast}
 use Rattle.txs_syntax.specs.declared.file.File.{File}
 use Rattle.txs_syntax.specs.declared.file.Def.TheVariants as def
 use Rattle.txs_syntax.specs.declared.file.DeclList.{DeclList}
-use Rattle.txs_types.specs.declared.scope.Scope as rust_scope
-use Rattle.txs_types.specs.Elaborates.{Elaborates, HasInts}
+use Rattle.txs_typing.specs.declared.scope.Scope as rust_scope
+use Rattle.txs_typing.specs.Elaborates.{Elaborates, HasInts}
 use Rattle.txs_types.specs.Files.{type_names, type_of, variables_of, scope_in, AreFunctions, no_function, a_function, AreConstants, no_constant, a_constant}
-use Rattle.txs_types.specs.inner.View.{scope_of}
+use Rattle.txs_typing.specs.inner.View.{scope_of}
 use Rattle.txs_types.specs.inner.Among.{IsOfFile}
 use Rattle.txs_types.specs.inner.Collected.{FunctionsMeant, ConstantsMeant}
 use Rattle.txs_types.proofs.files.Bodies.{body_scope}

@@ -8,11 +8,11 @@ use Rattle.txs_syntax.specs.declared.file.File.{File}
 use Rattle.txs_syntax.specs.declared.file.Def.{Def}
 use Rattle.txs_syntax.specs.declared.file.Def.TheVariants as def
 use Rattle.txs_syntax.specs.declared.file.DeclList.{DeclList}
-use Rattle.txs_types.specs.Offends.{Offence}
+use Rattle.txs_typing.specs.Offends.{Offence}
 use Rattle.txs_types.specs.Files.{type_names, type_of, variables_of, table_of, scope_in, FileOffends, in_function, in_constant, AreFunctions, no_function, a_function, AreFunctions.type_between, constant_between, AreConstants, no_constant, a_constant, AreConstants.type_between as type_by, function_between}
 use Rattle.txs_types.proofs.Laws.{MeantOrOffends, MeaningIsUnique}
-use Rattle.txs_types.proofs.trees.Unique.{unique}
-use Rattle.txs_types.proofs.trees.Judged.{elaborates_or_offends}
+use Rattle.txs_typing.proofs.trees.Unique.{unique}
+use Rattle.txs_typing.proofs.trees.Judged.{elaborates_or_offends}
 
 -- ---- no two definitions
 

@@ -6,16 +6,16 @@ use Rattle.txs_values.specs.Choices.{extent_of, extents_of}
 use Rattle.txs_values.specs.declared.default.Extent.{Extent}
 use Rattle.txs_syntax.specs.declared.ast.Name.{Name}
 use Rattle.txs_syntax.specs.declared.file.ConDef.{ConDef}
-use Rattle.txs_types.specs.declared.fault.TypeFault.{TypeFault}
-use Rattle.txs_types.specs.declared.fault.TypeFault.TheVariants as fault
-use Rattle.txs_types.specs.Offends.{Offence, unknown, empty_type, big_type}
-use Rattle.txs_types.specs.Files.{is_undefined, any_undefined, types_used, types_of_fields, NotAfter, Decides}
-use Rattle.txs_types.specs.inner.Told.{Finds, Least}
+use Rattle.txs_typing.specs.declared.fault.TypeFault.{TypeFault}
+use Rattle.txs_typing.specs.declared.fault.TypeFault.TheVariants as fault
+use Rattle.txs_typing.specs.Offends.{Offence, unknown, empty_type, big_type, NotAfter, Decides}
+use Rattle.txs_types.specs.Files.{is_undefined, any_undefined, types_used, types_of_fields}
+use Rattle.txs_typing.specs.inner.Told.{Finds, Least}
 use Rattle.txs_types.specs.inner.Among.{AnyUndefined, FindsUndefined, BadDefault, none, big}
-use Rattle.txs_types.proofs.trees.Unique.{some_injective}
-use Rattle.txs_types.proofs.trees.NotBoth.{none≢some}
+use Rattle.txs_typing.proofs.trees.Unique.{some_injective}
+use Rattle.txs_typing.proofs.trees.NotBoth.{none≢some}
 use Rattle.txs_types.proofs.lists.Gathering.{taken_more}
-use Rattle.txs_types.proofs.judging.Told.{finds_same, finds_least}
+use Rattle.txs_typing.proofs.judging.Told.{finds_same, finds_least}
 use Rattle.txs_types.proofs.lists.Collecting.{fields_append, split_undefined}
 
 not_after_itself : (o : Offence) → NotAfter o o

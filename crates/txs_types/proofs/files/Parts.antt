@@ -7,16 +7,16 @@ use Rattle.txs_syntax.specs.declared.file.File.{File}
 use Rattle.txs_syntax.specs.declared.file.Def.{Def}
 use Rattle.txs_syntax.specs.declared.file.Def.TheVariants as def
 use Rattle.txs_syntax.specs.declared.file.DeclList.{DeclList}
-use Rattle.txs_types.specs.declared.fault.TypeFault.{TypeFault}
-use Rattle.txs_types.specs.Elaborates.{HasInts}
-use Rattle.txs_types.specs.Offends.{Offence}
+use Rattle.txs_typing.specs.declared.fault.TypeFault.{TypeFault}
+use Rattle.txs_typing.specs.Elaborates.{HasInts}
+use Rattle.txs_typing.specs.Offends.{Offence}
 use Rattle.txs_types.specs.Files.{type_names, defined_names, built_in_types, built_in_names, excused, FileOffends, twice_type, twice_name, twice_parameter, unknown_type, no_value, big_default, in_function, in_constant}
-use Rattle.txs_types.specs.inner.Told.{Finds, Least}
+use Rattle.txs_typing.specs.inner.Told.{Finds, Least}
 use Rattle.txs_types.proofs.Laws.{FileHasInts}
 use Rattle.txs_types.specs.inner.Among.{Among, AmongDefs, IsTwice, TwiceIn, UnknownIn, BadDefault, none, big, InFunction, InConstant, FunctionsHaveInts, ConstantsHaveInts, InNames, OutsideBodies, InFile}
-use Rattle.txs_types.proofs.trees.Unique.{some_injective}
-use Rattle.txs_types.proofs.trees.NotBoth.{none≢some}
-use Rattle.txs_types.proofs.judging.Told.{finds_same, finds_least}
+use Rattle.txs_typing.proofs.trees.Unique.{some_injective}
+use Rattle.txs_typing.proofs.trees.NotBoth.{none≢some}
+use Rattle.txs_typing.proofs.judging.Told.{finds_same, finds_least}
 
 pub names_found : (file : File) (types : List Name) (defs : List Def) (a b c d e f r : Option TypeFault) → types ≡ type_names file.defs → defs ≡ file.defs
     → Finds a (IsTwice built_in_types types) → Finds b (IsTwice built_in_names (defined_names defs)) → Finds c (AmongDefs TwiceIn defs) → Finds d (AmongDefs (UnknownIn types) defs)

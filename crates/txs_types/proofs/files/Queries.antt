@@ -9,22 +9,22 @@ use Rattle.txs_terms.specs.declared.expr.Expr as rust_expr
 use Rattle.txs_syntax.specs.declared.ast.Ast.{Ast}
 use Rattle.txs_syntax.specs.declared.ast.Name.{Name}
 use Rattle.txs_syntax.specs.declared.file.DeclList.{DeclList}
-use Rattle.txs_types.specs.declared.fault.TypeFault.{TypeFault}
-use Rattle.txs_types.specs.declared.typed.Typed as rust_typed
-use Rattle.txs_types.specs.Names.{Variable, Global, Scope, scope_over}
-use Rattle.txs_types.specs.Elaborates.{Elaborates}
-use Rattle.txs_types.specs.Offends.{Offence, unknown, Offends}
-use Rattle.txs_types.specs.Files.{types_used, is_undefined, variables_of, names_of, query_scope, QueryOffends, twice_declared, unknown_declared, in_expression, IsNeed}
-use Rattle.txs_types.proofs.Laws.{HasTypes}
-use Rattle.txs_types.specs.Answer.{Told, IsSafe}
-use Rattle.txs_types.specs.inner.Told.{Finds}
-use Rattle.txs_types.specs.inner.View.{Judges}
+use Rattle.txs_typing.specs.declared.fault.TypeFault.{TypeFault}
+use Rattle.txs_typing.specs.declared.typed.Typed as rust_typed
+use Rattle.txs_typing.specs.Names.{Variable, Global, Scope, scope_over}
+use Rattle.txs_typing.specs.Elaborates.{Elaborates}
+use Rattle.txs_typing.specs.Offends.{Offence, unknown, Offends}
+use Rattle.txs_types.specs.Files.{types_used, is_undefined, variables_of, names_of, query_scope, QueryOffends, twice_declared, unknown_declared, in_expression}
+use Rattle.txs_typing.specs.Answer.{IsNeed, Told, IsSafe}
+use Rattle.txs_typing.proofs.Laws.{HasTypes}
+use Rattle.txs_typing.specs.inner.Told.{Finds}
+use Rattle.txs_typing.specs.inner.View.{Judges}
 use Rattle.txs_types.specs.inner.Queries.{InDeclarations, Decided}
-use Rattle.txs_types.proofs.trees.NotBoth.{not_both}
-use Rattle.txs_types.proofs.trees.WellTyped.{elaborated_is_typed, elaborated_is_wanted}
-use Rattle.txs_types.proofs.trees.Safe.{typed_is_safe}
+use Rattle.txs_typing.proofs.trees.NotBoth.{not_both}
+use Rattle.txs_typing.proofs.trees.WellTyped.{elaborated_is_typed, elaborated_is_wanted}
+use Rattle.txs_typing.proofs.trees.Safe.{typed_is_safe}
 use Rattle.txs_types.proofs.files.Tables.{all_defined, not_true, known_variables}
-use Rattle.txs_types.proofs.judging.Told.{Either, told_same, told_left, told_right, told_either, none_of_both}
+use Rattle.txs_typing.proofs.judging.Told.{Either, told_same, told_left, told_right, told_either, none_of_both}
 
 -- ---- the scope
 

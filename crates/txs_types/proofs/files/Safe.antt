@@ -9,19 +9,19 @@ use Rattle.txs_terms.specs.View.{definitions_of}
 use Rattle.txs_terms.specs.declared.defs.FunctionDef.{FunctionDef}
 use Rattle.txs_terms.specs.declared.defs.ConstantDef.{ConstantDef}
 use Rattle.txs_syntax.specs.declared.file.File.{File}
-use Rattle.txs_types.specs.declared.fault.TypeFault.{TypeFault}
+use Rattle.txs_typing.specs.declared.fault.TypeFault.{TypeFault}
 use Rattle.txs_types.specs.declared.bodies.Collected as rust_collected
-use Rattle.txs_types.specs.Offends.{Offence}
+use Rattle.txs_typing.specs.Offends.{Offence}
 use Rattle.txs_types.specs.Files.{type_names, table_in, FileOffends, IsMeant, FileHasNames}
-use Rattle.txs_types.specs.Answer.{Told, AreSafe}
-use Rattle.txs_types.specs.inner.Told.{Finds, Least}
+use Rattle.txs_typing.specs.Answer.{Told, AreSafe}
+use Rattle.txs_typing.specs.inner.Told.{Finds, Least}
 use Rattle.txs_types.specs.inner.Among.{OutsideBodies}
 use Rattle.txs_types.specs.inner.Collected.{FunctionsMeant, ConstantsMeant, FunctionsCollected, ConstantsCollected}
 use Rattle.txs_types.proofs.lists.Deciding.{least_left, least_right}
 use Rattle.txs_types.proofs.files.Defined.{meant_is_defined}
 use Rattle.txs_types.proofs.files.Parts.{file_found, file_has_ints}
-use Rattle.txs_types.proofs.trees.Safe.{typed_is_safe}
-use Rattle.txs_types.proofs.trees.Unique.{some_injective}
+use Rattle.txs_typing.proofs.trees.Safe.{typed_is_safe}
+use Rattle.txs_typing.proofs.trees.Unique.{some_injective}
 
 pub defined_are_safe : (d : Definitions) → AreDefined d → AreSafe d
 defined_are_safe d defined = record {

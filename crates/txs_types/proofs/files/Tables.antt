@@ -10,10 +10,10 @@ use Rattle.txs_syntax.specs.declared.file.Def.{Def}
 use Rattle.txs_syntax.specs.declared.file.Def.TheVariants as def
 use Rattle.txs_syntax.specs.declared.file.ConDef.{ConDef}
 use Rattle.txs_syntax.specs.declared.file.Decl.{Decl}
-use Rattle.txs_types.specs.Offends.{Offence, unknown, empty_type}
+use Rattle.txs_typing.specs.Offends.{Offence, unknown, empty_type}
 use Rattle.txs_types.specs.Files.{type_names, type_number, type_of, each_of, variables_in, constructors_of, table_in, table_of, is_among, built_in_types, types_used, types_of_fields, types_named, is_undefined, any_undefined, excused, default_in, FileOffends, unknown_type, no_value}
-use Rattle.txs_types.proofs.trees.Unique.{some_injective}
-use Rattle.txs_types.proofs.trees.NotBoth.{none≢some}
+use Rattle.txs_typing.proofs.trees.Unique.{some_injective}
+use Rattle.txs_typing.proofs.trees.NotBoth.{none≢some}
 use Rattle.txs_types.proofs.files.Meaning.{IsRest, head_of, tail_of, all_of}
 
 pub or_false : (p q : Bool) → p ≡ false → q ≡ false → (p || q) ≡ false

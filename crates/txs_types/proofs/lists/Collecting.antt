@@ -6,7 +6,7 @@ use Rattle.txs_syntax.specs.declared.file.Def.{Def}
 use Rattle.txs_syntax.specs.declared.file.Def.TheVariants as def
 use Rattle.txs_syntax.specs.declared.file.ConDef.{ConDef}
 use Rattle.txs_types.specs.declared.file_names.Counts.{Counts}
-use Rattle.txs_types.specs.Names.{constructor_globals, test_name}
+use Rattle.txs_typing.specs.Names.{constructor_globals, test_name}
 use Rattle.txs_types.specs.Files.{type_names, names_in, constructor_names, defined_names, table_in, excused, types_used, types_of_fields, is_undefined, any_undefined, constructors_of}
 use Rattle.txs_types.specs.inner.Counted.{counts_after, globals_from}
 

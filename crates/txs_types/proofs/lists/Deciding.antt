@@ -1,14 +1,14 @@
 -- Which fault decides, where offences stand at several of a list.
 use Rattle.std.proofs.Common.{◌≡◌, ◌⊎◌, inl, inr, ◌<◌, ◌≤◌, ◌+◌, ℕ, zero, suc, ap, sym, subst, ◌∙◌, List, [], ◌∷◌, ◌++◌, length, take, get_or, slice_get, Option, Some, None, refl, arith}
 use Rattle.std.proofs.lemmas.List.{take_all, length-take-le}
-use Rattle.txs_types.specs.declared.fault.TypeFault.{TypeFault}
-use Rattle.txs_types.specs.Offends.{Offence}
-use Rattle.txs_types.specs.inner.Told.{Least, Finds}
+use Rattle.txs_typing.specs.declared.fault.TypeFault.{TypeFault}
+use Rattle.txs_typing.specs.Offends.{Offence}
+use Rattle.txs_typing.specs.inner.Told.{Least, Finds}
 use Rattle.txs_types.specs.inner.Among.{Among}
-use Rattle.txs_types.proofs.trees.Unique.{some_injective}
-use Rattle.txs_types.proofs.trees.NotBoth.{none≢some}
+use Rattle.txs_typing.proofs.trees.Unique.{some_injective}
+use Rattle.txs_typing.proofs.trees.NotBoth.{none≢some}
 use Rattle.txs_types.proofs.lists.Gathering.{taken_more}
-use Rattle.txs_types.proofs.judging.Told.{Either, finds_same, finds_least}
+use Rattle.txs_typing.proofs.judging.Told.{Either, finds_same, finds_least}
 
 -- ---- no fault
 

@@ -8,11 +8,11 @@ use Rattle.txs_syntax.specs.declared.file.File.{File}
 use Rattle.txs_syntax.specs.declared.file.Def.{Def}
 use Rattle.txs_syntax.specs.declared.file.Def.TheVariants as def
 use Rattle.txs_syntax.specs.declared.file.ConDef.{ConDef}
-use Rattle.txs_types.specs.Names.{test_name}
-use Rattle.txs_types.specs.Offends.{twice}
+use Rattle.txs_typing.specs.Names.{test_name}
+use Rattle.txs_typing.specs.Offends.{twice}
 use Rattle.txs_types.specs.Files.{type_names, constructors_of, table_in, table_of, is_among, Repeats, here, further, built_in_names, names_in, constructor_names, defined_names, twice_name}
-use Rattle.txs_types.proofs.trees.Unique.{some_injective}
-use Rattle.txs_types.proofs.trees.NotBoth.{none≢some}
+use Rattle.txs_typing.proofs.trees.Unique.{some_injective}
+use Rattle.txs_typing.proofs.trees.NotBoth.{none≢some}
 use Rattle.txs_types.proofs.files.Tables.{NoOffence}
 
 -- one of the names is this text

@@ -1,17 +1,17 @@
 -- Loops over names: the number of a type, names without a definition, names that stand before already.
 use Rattle.std.proofs.Common.{◌≡◌, ◌⊎◌, ◌<◌, ◌+◌, ℕ, suc, Bool, true, false, ◌||◌, cond, bytes_eq, refl, sym, ap, subst, ◌∙◌, inl, inr, List, [], ◌∷◌, ◌++◌, length, map, take, drop, get_or, Option, Some, None, MatchBool, add-one, true≢false, arith}
 use Rattle.std.proofs.lemmas.List.{map-append}
-use Rattle.txs_types.proofs.naming.Tests.{same_text, other_text}
+use Rattle.txs_typing.proofs.Tests.{same_text, other_text}
 use Rattle.txs_types.proofs.lists.Gathering.{left_over, taken_more}
 use Rattle.txs_syntax.specs.declared.ast.Name.{Name}
 use Rattle.txs_syntax.specs.declared.file.Decl.{Decl}
-use Rattle.txs_types.specs.declared.fault.TypeFault.{TypeFault}
-use Rattle.txs_types.specs.declared.fault.TypeFault.TheVariants as fault
-use Rattle.txs_types.specs.Offends.{Offence, twice}
-use Rattle.txs_types.specs.Files.{type_number, is_among, types_used, Repeats, here, further, NotAfter}
-use Rattle.txs_types.specs.inner.Told.{Least, Finds}
+use Rattle.txs_typing.specs.declared.fault.TypeFault.{TypeFault}
+use Rattle.txs_typing.specs.declared.fault.TypeFault.TheVariants as fault
+use Rattle.txs_typing.specs.Offends.{Offence, twice, NotAfter}
+use Rattle.txs_types.specs.Files.{type_number, is_among, types_used, Repeats, here, further}
+use Rattle.txs_typing.specs.inner.Told.{Least, Finds}
 use Rattle.txs_types.specs.inner.Among.{IsTwice}
-use Rattle.txs_types.proofs.judging.Told.{Either, finds_same, finds_least}
+use Rattle.txs_typing.proofs.judging.Told.{Either, finds_same, finds_least}
 
 -- ---- the number of a type
 

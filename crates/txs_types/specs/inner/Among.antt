@@ -7,14 +7,14 @@ use Rattle.txs_syntax.specs.declared.ast.Name.{Name}
 use Rattle.txs_syntax.specs.declared.file.File.{File}
 use Rattle.txs_syntax.specs.declared.file.Def.{Def}
 use Rattle.txs_syntax.specs.declared.file.Def.TheVariants as def
-use Rattle.txs_types.specs.declared.fault.TypeFault.{TypeFault}
-use Rattle.txs_types.specs.declared.scope.Scope as rust_scope
-use Rattle.txs_types.specs.Names.{built_ins}
-use Rattle.txs_types.specs.Elaborates.{HasInts}
-use Rattle.txs_types.specs.Offends.{Offence, twice, unknown, empty_type, big_type, Offends}
+use Rattle.txs_typing.specs.declared.fault.TypeFault.{TypeFault}
+use Rattle.txs_typing.specs.declared.scope.Scope as rust_scope
+use Rattle.txs_typing.specs.Names.{built_ins}
+use Rattle.txs_typing.specs.Elaborates.{HasInts}
+use Rattle.txs_typing.specs.Offends.{Offence, twice, unknown, empty_type, big_type, Offends}
 use Rattle.txs_types.specs.Files.{type_names, type_of, variables_of, types_named, names_in, defined_names, is_undefined, any_undefined, built_in_types, built_in_names, excused, scope_in, globals_in, Repeats}
-use Rattle.txs_types.specs.inner.View.{globals_of}
-use Rattle.txs_types.specs.inner.Told.{Finds}
+use Rattle.txs_typing.specs.inner.View.{globals_of}
+use Rattle.txs_typing.specs.inner.Told.{Finds}
 
 -- the offence stands at one of these, each with its number
 pub record Among {A : Type 0} (At : ℕ → A → Offence → Type 0) (xs : List A) (o : Offence) : Type 0 where

@@ -5,12 +5,12 @@ use Rattle.txs_syntax.specs.declared.file.Def.{Def}
 use Rattle.txs_terms.specs.View.{function_of, constant_of}
 use Rattle.txs_terms.specs.declared.defs.FunctionDef.{FunctionDef}
 use Rattle.txs_terms.specs.declared.defs.ConstantDef.{ConstantDef}
-use Rattle.txs_types.specs.declared.fault.TypeFault.{TypeFault}
+use Rattle.txs_typing.specs.declared.fault.TypeFault.{TypeFault}
 use Rattle.txs_types.specs.declared.bodies.Collected as rust_collected
-use Rattle.txs_types.specs.Offends.{Offence}
+use Rattle.txs_typing.specs.Offends.{Offence}
 use Rattle.txs_types.specs.Files.{AreFunctions, AreConstants}
-use Rattle.txs_types.specs.inner.Told.{Finds, Least}
-use Rattle.txs_types.specs.Answer.{Told}
+use Rattle.txs_typing.specs.inner.Told.{Finds, Least}
+use Rattle.txs_typing.specs.Answer.{Told}
 use Rattle.txs_types.specs.inner.Among.{AmongDefs, InFunction, InConstant, FunctionsHaveInts, ConstantsHaveInts}
 
 -- the functions that these definitions mean, and the numbers in their bodies are in the range of Int

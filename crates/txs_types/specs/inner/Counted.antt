@@ -4,7 +4,7 @@ use Rattle.txs_syntax.specs.declared.ast.Name.{Name}
 use Rattle.txs_syntax.specs.declared.file.Def.{Def}
 use Rattle.txs_syntax.specs.declared.file.Def.TheVariants as def
 use Rattle.txs_types.specs.declared.file_names.Counts.{Counts}
-use Rattle.txs_types.specs.Names.{Global}
+use Rattle.txs_typing.specs.Names.{Global}
 use Rattle.txs_types.specs.Files.{globals_in}
 
 -- how many there are after the definition, if so many stand before it

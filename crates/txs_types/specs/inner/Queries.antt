@@ -3,11 +3,11 @@ use Rattle.std.specs.Prelude.{◌≡◌, ◌⊎◌, List, [], Option, Some, None
 use Rattle.txs_syntax.specs.declared.ast.Name.{Name}
 use Rattle.txs_syntax.specs.declared.file.DeclList.{DeclList}
 use Rattle.txs_terms.specs.declared.expr.Expr as rust_expr
-use Rattle.txs_types.specs.declared.fault.TypeFault.{TypeFault}
-use Rattle.txs_types.specs.declared.typed.Typed as rust_typed
-use Rattle.txs_types.specs.Offends.{Offence}
+use Rattle.txs_typing.specs.declared.fault.TypeFault.{TypeFault}
+use Rattle.txs_typing.specs.declared.typed.Typed as rust_typed
+use Rattle.txs_typing.specs.Offends.{Offence}
 use Rattle.txs_types.specs.Files.{names_in, types_used}
-use Rattle.txs_types.specs.inner.Told.{Lesser}
+use Rattle.txs_typing.specs.inner.Told.{Lesser}
 use Rattle.txs_types.specs.inner.Among.{IsTwice, AnyUndefined}
 
 -- the offence stands in the declarations, if the types have these names

@@ -1,7 +1,7 @@
 use Rattle.std.proofs.Common.{◌∙◌, ap, sym, subst}
 use Rattle.txs_terms.specs.View.{Held, definitions_of}
 use Rattle.txs_types.specs.Files.{type_names, table_in}
-use Rattle.txs_types.specs.Answer.{AreSafe}
+use Rattle.txs_typing.specs.Answer.{AreSafe}
 use Rattle.txs_types.proofs.files.Safe.{told_of, none_offends, all_defined, defined_are_safe}
 use Rattle.txs_types.proofs.file.type_defs.Goals as goal
 

@@ -1,6 +1,6 @@
 use Rattle.std.proofs.Common.{◌≡◌, ◌++◌, drop}
 use Rattle.txs_types.specs.Files.{globals_in}
-use Rattle.txs_types.specs.inner.View.{globals_of}
+use Rattle.txs_typing.specs.inner.View.{globals_of}
 use Rattle.txs_types.specs.inner.Counted.{globals_from}
 use Rattle.txs_types.proofs.file_names.add_definitions.Given as goal
 

@@ -1,7 +1,7 @@
 use Rattle.std.proofs.Common.{◌≡◌, ◌++◌, drop}
 use Rattle.txs_values.specs.TableView.{conses_of}
-use Rattle.txs_types.specs.Names.{constructor_globals}
-use Rattle.txs_types.specs.inner.View.{globals_of}
+use Rattle.txs_typing.specs.Names.{constructor_globals}
+use Rattle.txs_typing.specs.inner.View.{globals_of}
 use Rattle.txs_types.proofs.global_names.add_constructors.Given as goal
 
 abbrev pub invariant-loop-cons : goal.invariant-loop-cons

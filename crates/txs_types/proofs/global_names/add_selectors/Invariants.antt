@@ -1,7 +1,7 @@
 use Rattle.std.proofs.Common.{◌≡◌, ◌++◌, map, drop}
 use Rattle.txs_values.specs.TableView.{field_of}
-use Rattle.txs_types.specs.Names.{selectors}
-use Rattle.txs_types.specs.inner.View.{globals_of}
+use Rattle.txs_typing.specs.Names.{selectors}
+use Rattle.txs_typing.specs.inner.View.{globals_of}
 use Rattle.txs_types.proofs.global_names.add_selectors.Given as goal
 
 abbrev pub invariant-loop-place : goal.invariant-loop-place

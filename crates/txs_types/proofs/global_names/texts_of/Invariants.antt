@@ -1,5 +1,5 @@
 use Rattle.std.proofs.Common.{◌≡◌, ◌++◌, drop, map}
-use Rattle.txs_types.specs.inner.View.{globals_of}
+use Rattle.txs_typing.specs.inner.View.{globals_of}
 use Rattle.txs_types.proofs.global_names.texts_of.Given as goal
 
 -- the names so far, with those that are left

@@ -1,8 +1,8 @@
 use Rattle.std.proofs.Common.{◌≡◌, MatchBool, Some, None, take, subst}
 use Rattle.std.specs.BTreeSet.{contains_text}
 use Rattle.std.proofs.lemmas.List.{take_all}
-use Rattle.txs_types.specs.declared.fault.TypeFault.TheVariants as fault
-use Rattle.txs_types.specs.inner.Told.{Finds}
+use Rattle.txs_typing.specs.declared.fault.TypeFault.TheVariants as fault
+use Rattle.txs_typing.specs.inner.Told.{Finds}
 use Rattle.txs_types.specs.inner.Among.{IsTwice}
 use Rattle.txs_types.proofs.naming.Loops.{repeats_next, seen_put}
 use Rattle.txs_types.proofs.lists.Gathering.{taken_more}

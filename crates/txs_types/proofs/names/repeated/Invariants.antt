@@ -1,7 +1,7 @@
 use Rattle.std.proofs.Common.{◌≡◌, ℕ, List, take}
 use Rattle.std.specs.BTreeSet.{contains_text}
 use Rattle.txs_types.specs.Files.{is_among}
-use Rattle.txs_types.specs.inner.Told.{Finds}
+use Rattle.txs_typing.specs.inner.Told.{Finds}
 use Rattle.txs_types.specs.inner.Among.{IsTwice}
 use Rattle.txs_types.proofs.naming.Loops.{seen}
 use Rattle.txs_types.proofs.names.repeated.Given as goal

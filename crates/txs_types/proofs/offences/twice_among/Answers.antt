@@ -1,7 +1,7 @@
 use Rattle.std.proofs.Common.{subst, ◌∙◌, List, ℕ, []}
 use Rattle.std.specs.Prelude.{IfOk}
 use Rattle.txs_syntax.specs.declared.ast.Name.{Name}
-use Rattle.txs_types.specs.inner.Told.{Finds}
+use Rattle.txs_typing.specs.inner.Told.{Finds}
 use Rattle.txs_types.specs.inner.Among.{IsTwice}
 use Rattle.txs_types.proofs.offences.twice_among.Goals as goal
 

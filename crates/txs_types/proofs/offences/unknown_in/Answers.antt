@@ -2,7 +2,7 @@ use Rattle.std.proofs.Common.{subst, sym, ◌∷◌, []}
 use Rattle.txs_syntax.specs.declared.file.Def.{Def}
 use Rattle.txs_syntax.specs.declared.file.Def.TheVariants as def
 use Rattle.txs_types.specs.Files.{types_used}
-use Rattle.txs_types.specs.inner.Told.{Finds}
+use Rattle.txs_typing.specs.inner.Told.{Finds}
 use Rattle.txs_types.specs.inner.Among.{UnknownIn}
 use Rattle.txs_types.proofs.files.Offending.{any_least}
 use Rattle.txs_types.proofs.offences.unknown_in.Goals as goal

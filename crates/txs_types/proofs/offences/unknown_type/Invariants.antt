@@ -1,5 +1,5 @@
 use Rattle.std.proofs.Common.{take}
-use Rattle.txs_types.specs.inner.Told.{Finds}
+use Rattle.txs_typing.specs.inner.Told.{Finds}
 use Rattle.txs_types.specs.inner.Among.{AmongDefs, UnknownIn}
 use Rattle.txs_types.proofs.offences.unknown_type.Given as goal
 

@@ -1,8 +1,8 @@
 use Rattle.std.proofs.Common.{[], subst, ◌∙◌}
 use Rattle.txs_types.specs.Files.{names_in, types_used}
-use Rattle.txs_types.specs.inner.Told.{Finds}
+use Rattle.txs_typing.specs.inner.Told.{Finds}
 use Rattle.txs_types.specs.inner.Among.{IsTwice, AnyUndefined}
-use Rattle.txs_types.proofs.judging.Told.{finds_least}
+use Rattle.txs_typing.proofs.judging.Told.{finds_least}
 use Rattle.txs_types.proofs.query.declaration_fault.Goals as goal
 
 pub returns : goal.returns

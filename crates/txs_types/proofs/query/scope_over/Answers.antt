@@ -1,7 +1,7 @@
 use Rattle.std.proofs.Common.{map, ap}
 use Rattle.txs_values.specs.TableView.{field_of}
 use Rattle.txs_terms.specs.View.{definitions_of}
-use Rattle.txs_types.specs.inner.View.{globals_of}
+use Rattle.txs_typing.specs.inner.View.{globals_of}
 use Rattle.txs_types.proofs.files.Queries.{scope_is}
 use Rattle.txs_types.proofs.query.scope_over.Goals as goal
 

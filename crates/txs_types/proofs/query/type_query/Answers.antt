@@ -1,10 +1,10 @@
 use Rattle.std.proofs.Common.{ap, subst, ◌∙◌}
 use Rattle.txs_terms.specs.View.{definitions_of}
 use Rattle.txs_types.specs.Files.{names_of}
-use Rattle.txs_types.specs.inner.Told.{Finds}
+use Rattle.txs_typing.specs.inner.Told.{Finds}
 use Rattle.txs_types.specs.inner.Queries.{InDeclarations}
-use Rattle.txs_types.specs.inner.View.{Judges}
-use Rattle.txs_types.specs.Answer.{want_of}
+use Rattle.txs_typing.specs.inner.View.{Judges}
+use Rattle.txs_typing.specs.Answer.{want_of}
 use Rattle.txs_types.proofs.files.Queries.{query_clean, query_told, query_typed, query_wanted, query_safe}
 use Rattle.txs_types.proofs.query.type_query.Goals as goal
 

@@ -1,7 +1,7 @@
 use Rattle.std.proofs.Common.{◌≡◌, ◌++◌, map, drop}
 use Rattle.txs_terms.specs.View.{constant_of}
-use Rattle.txs_types.specs.Names.{constant_globals}
-use Rattle.txs_types.specs.inner.View.{globals_of}
+use Rattle.txs_typing.specs.Names.{constant_globals}
+use Rattle.txs_typing.specs.inner.View.{globals_of}
 use Rattle.txs_types.proofs.table_names.add_constants.Given as goal
 
 abbrev pub invariant-loop-place : goal.invariant-loop-place

@@ -1,7 +1,7 @@
 use Rattle.std.proofs.Common.{◌≡◌, ◌++◌, map, drop}
 use Rattle.txs_terms.specs.View.{function_of}
-use Rattle.txs_types.specs.Names.{function_globals}
-use Rattle.txs_types.specs.inner.View.{globals_of}
+use Rattle.txs_typing.specs.Names.{function_globals}
+use Rattle.txs_typing.specs.inner.View.{globals_of}
 use Rattle.txs_types.proofs.table_names.add_functions.Given as goal
 
 abbrev pub invariant-loop-place : goal.invariant-loop-place

@@ -1,7 +1,7 @@
 use Rattle.std.proofs.Common.{◌≡◌, ◌++◌, drop}
 use Rattle.txs_values.specs.TableView.{table_of}
-use Rattle.txs_types.specs.Names.{table_globals}
-use Rattle.txs_types.specs.inner.View.{globals_of}
+use Rattle.txs_typing.specs.Names.{table_globals}
+use Rattle.txs_typing.specs.inner.View.{globals_of}
 use Rattle.txs_types.proofs.table_names.add_types.Given as goal
 
 abbrev pub invariant-loop-place : goal.invariant-loop-place

@@ -1,0 +1,5 @@
+pub mod Laws
+pub mod Tests
+pub mod Lookups
+pub mod trees
+pub mod judging
