@@ -123,20 +123,20 @@ fn push_tree(out: &mut String, tree: &Ast) -> Result<(), AllocError> {
             push_tree(out, no.get())?;
             out.push(')')
         }
-        Ast::Let {
-            at,
-            name,
-            value,
-            body,
-        } => {
-            push_at(out, "LET", *at)?;
-            out.push('(')?;
-            push_name(out, name)?;
-            out.push_str(" = ")?;
-            push_tree(out, value.get())?;
-            out.push_str(", ")?;
+        Ast::Let { at, bindings, body } => {
+            for binding in bindings.as_slice() {
+                push_at(out, "LET", *at)?;
+                out.push('(')?;
+                push_name(out, &binding.name)?;
+                out.push_str(" = ")?;
+                push_tree(out, &binding.value)?;
+                out.push_str(", ")?;
+            }
             push_tree(out, body.get())?;
-            out.push(')')
+            for _ in bindings.as_slice() {
+                out.push(')')?;
+            }
+            Ok(())
         }
     }
 }

@@ -1,9 +1,9 @@
 pub mod Alike
-pub mod Views
 pub mod Ranges
 pub mod Characters
 pub mod Sizes
 pub mod Steps
 pub mod Nodes
 pub mod Meaning
+pub mod Names
 pub mod Readings

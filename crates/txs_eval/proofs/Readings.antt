@@ -6,7 +6,7 @@ use Rattle.txs_values.specs.declared.ty.Ty.TheVariants as variant
 use Rattle.txs_values.specs.declared.refusal.ReadValueFault.{ReadValueFault}
 use Rattle.txs_values.specs.declared.refusal.ReadValueFault.TheVariants as fault
 use Rattle.txs_values.specs.View.{ty_of}
-use Rattle.txs_values.specs.Spelling.{read_text}
+use Rattle.txs_values.specs.Reading.{read_text}
 use Rattle.txs_values.specs.Spelled.{IsSpelling, IsNamed, IsAllowed}
 use Rattle.txs_values.proofs.spellings.Directions.{read_is_spelled}
 use Rattle.txs_eval.specs.declared.fault.Stop.{Stop}
@@ -43,14 +43,14 @@ pub moved : {bs cs : List ℕ} → bs ≡ cs → IsUtf8 bs → IsUtf8 cs
 moved e u = subst IsUtf8 e u
 
 no_form : (table : Table) (t : Ty) (bs : List ℕ) {f : ReadValueFault} (s : Stop) → IsNamed table → t ≢ string → IsUtf8 bs
-    → (f ≡ fault.NoMemory) ⊎ ((v : Value) → IsUtf8 bs → IsSpelling table t v bs → IsAllowed table t v → ⊥) → f ≢ fault.NoMemory → s ≡ stop.Form
+    → (f ≡ fault.NoMemory) ⊎ (IsNamed table → (v : Value) → IsUtf8 bs → IsSpelling table t v bs → IsAllowed table t v → ⊥) → f ≢ fault.NoMemory → s ≡ stop.Form
     → Stopped broken s (text_to table t bs)
 no_form table t bs s n h u k m e =
     subst (λ x. Stopped broken x (text_to table t bs)) (sym e)
-    (reads_not table t bs n h (λ v a b. ⊎_elim (λ p. absurd (m p)) (λ q. q v u a b) k))
+    (reads_not table t bs n h (λ v a b. ⊎_elim (λ p. absurd (m p)) (λ q. q n v u a b) k))
 
 pub unread : (table : Table) (t : Ty) (bs : List ℕ) (f : ReadValueFault) (s : Stop) → IsNamed table → t ≢ string → IsUtf8 bs
-    → (f ≡ fault.NoMemory) ⊎ ((v : Value) → IsUtf8 bs → IsSpelling table t v bs → IsAllowed table t v → ⊥)
+    → (f ≡ fault.NoMemory) ⊎ (IsNamed table → (v : Value) → IsUtf8 bs → IsSpelling table t v bs → IsAllowed table t v → ⊥)
     → (f ≡ fault.NoMemory → s ≡ stop.NoMemory) → (f ≢ fault.NoMemory → s ≡ stop.Form) → Stopped broken s (text_to table t bs)
 unread table t bs fault.NoMemory s n h u k w o = subst (λ x. Stopped broken x (text_to table t bs)) (sym (w refl)) tt
 unread table t bs fault.NotText s n h u k w o = no_form table t bs s n h u k (λ e. cc) (o (λ e. cc))

@@ -6,22 +6,22 @@ use Rattle.txs_values.specs.Value.{Value}
 use Rattle.txs_terms.specs.declared.expr.Expr as rust_expr
 use Rattle.txs_terms.specs.Expr.{Expr}
 use Rattle.txs_terms.specs.Eval.{Defs, Run, got, bad, Runs, gots, bads, Fault, high, long, node_limit, with_first}
-use Rattle.txs_terms.specs.Under.{Environment, each_under, node_under, run_under}
+use Rattle.txs_terms.specs.Under.{Environment, each_under, node_bare, run_bare}
 use Rattle.txs_terms.specs.View.{expr_of, exprs_of}
 
 limit_is : node_limit ≡ 1000000
 unfolding node_limit
 limit_is = refl
 
-pub run_high : (defs : Defs) (left : ℕ) (env : Environment) (e : Expr) (n : ℕ) → left ≡ 0 → run_under defs left env e n ≡ bad high
+pub run_high : (defs : Defs) (left : ℕ) (env : Environment) (e : Expr) (n : ℕ) → left ≡ 0 → run_bare defs left env e n ≡ bad high
 run_high defs left env e n h = rw h refl
 
-pub run_long : (defs : Defs) (left : ℕ) (env : Environment) (e : Expr) (n : ℕ) → (left ≡ 0 → ⊥) → 1000000 ≤ n → run_under defs left env e n ≡ bad long
+pub run_long : (defs : Defs) (left : ℕ) (env : Environment) (e : Expr) (n : ℕ) → (left ≡ 0 → ⊥) → 1000000 ≤ n → run_bare defs left env e n ≡ bad long
 run_long defs zero env e n h l = absurd (h refl)
 run_long defs (suc left) env e n h l = let q : ltb n node_limit ≡ false = rw limit_is (le-ltb n 1000000 l) in rw q refl
 
 pub run_node : (defs : Defs) (left : ℕ) (env : Environment) (e : Expr) (n : ℕ) → (left ≡ 0 → ⊥) → n < 1000000
-    → run_under defs left env e n ≡ node_under defs (run_under defs (left - 1)) env e (n + 1)
+    → run_bare defs left env e n ≡ node_bare defs (run_bare defs (left - 1)) env e (n + 1)
 run_node defs zero env e n h l = absurd (h refl)
 run_node defs (suc left) env e n h l =
     let q : ltb n node_limit ≡ true = rw limit_is (lt-ltb n 1000000 l) in

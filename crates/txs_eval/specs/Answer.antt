@@ -1,8 +1,11 @@
 -- What a result of the program says of an evaluation.
-use Rattle.std.specs.Prelude.{◌≡◌, ℕ, Bool, List, [], Result, Ok, Err}
+use Rattle.std.specs.Prelude.{◌≡◌, ◌≢◌, ℕ, Bool, List, [], Result, Ok, Err}
 use Rattle.txs_values.specs.declared.value.Value as rust
 use Rattle.txs_values.specs.Value.{Ty, Value, bool, HaveTypes}
 use Rattle.txs_values.specs.View.{value_of, values_of}
+use Rattle.txs_terms.specs.declared.expr.Expr as rust_expr
+use Rattle.txs_terms.specs.declared.expr.Expr.TheVariants as variant
+use Rattle.txs_terms.specs.declared.expr.Binding.{Binding}
 use Rattle.txs_terms.specs.Expr.{Expr}
 use Rattle.txs_terms.specs.Typed.{Signatures, Of, AreTyped}
 use Rattle.txs_terms.specs.Under.{Environment}
@@ -72,3 +75,11 @@ EndTruth (Err e) r = (a b : ℕ → Run) → Stopped bad e (then_run r (λ x m. 
 -- the values of the slots and of the locals around an expression
 abbrev pub around : List rust.Value → List rust.Value → Environment
 around slots locals = record { slots = values_of slots; locals = values_of locals }
+
+-- it is no LET
+abbrev pub IsNoLet : rust_expr.Expr → Type 0
+IsNoLet e = (bs : List Binding) → (body : rust_expr.Expr) → e ≢ variant.Let bs body
+
+-- if it is a LET, it binds something
+abbrev pub IsNoEmptyLet : rust_expr.Expr → Type 0
+IsNoEmptyLet e = (body : rust_expr.Expr) → e ≢ variant.Let [] body

@@ -14,7 +14,7 @@ pub fn same(a: &Value, b: &Value) -> bool
         (Value::Bool(x), Value::Bool(y)) => *x == *y,
         (Value::Text(x), Value::Text(y)) => x.is(y),
         (Value::Cons { id: c, fields: xs }, Value::Cons { id: d, fields: ys }) => {
-            *c == *d && same_fields(xs.as_slice(), ys.as_slice())
+            *c == *d && same_fields(xs.get().as_slice(), ys.get().as_slice())
         }
         _ => false,
     }

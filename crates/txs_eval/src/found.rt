@@ -1,4 +1,4 @@
-ghost use Rattle.std.specs.Prelude.{◌≡◌, IfOk, OnErr, IfErr, Ok, List, [], ◌∷◌, ◌++◌, slice_get};
+ghost use Rattle.std.specs.Prelude.{◌≡◌, IfOk, OnErr, IfErr, Ok, List, [], ◌∷◌, ◌++◌, take, slice_get};
 ghost use Rattle.txs_values.specs.Spelled.{IsNamed};
 ghost use Rattle.txs_values.specs.declared.value.Value as rust;
 ghost use Rattle.txs_values.specs.Value.{bool, cons, packed, same_value};
@@ -116,9 +116,11 @@ pub fn pushed(values: &mut Values, found: Found) -> Result<u32, Stop>
     }
 }
 
-/// The innermost local goes.
-pub fn unbind(locals: &mut Values)
-    ensures { (vs : List rust.Value) → (v : rust.Value) → locals.old ≡ vs ++ v ∷ [] → locals.new ≡ vs }
+/// The locals go that came after the first `outer`.
+pub fn unbind(locals: &mut Values, outer: usize)
+    ensures { locals.new ≡ take outer locals.old }
 {
-    locals.pop();
+    while locals.len() > outer {
+        locals.pop();
+    }
 }

@@ -95,7 +95,7 @@ pub fn unary(
         }
         (Unary::Select { constructor, field }, Value::Cons { id, fields }) => {
             if constructor == *id {
-                selected(alloc, fields.as_slice(), field)
+                selected(alloc, fields.get().as_slice(), field)
             } else {
                 Err(Stop::Selector)
             }

@@ -3,6 +3,7 @@ pub mod Climb
 pub mod Press
 pub mod Texts
 pub mod Squash
+pub mod Heads
 pub mod Members
 pub mod Runs
 pub mod Mentions

@@ -4,10 +4,10 @@ use Rattle.txs_values.specs.Value.{Ty, Value, Table, HasType}
 use Rattle.txs_values.specs.Text.{text_of}
 use Rattle.txs_values.specs.Faults.{IsReadable}
 use Rattle.txs_terms.specs.Typed.{IsTable, IsType}
-use Rattle.txs_values.specs.Spelling.{read_text}
+use Rattle.txs_values.specs.Reading.{read_text}
 use Rattle.txs_values.specs.Spelled.{IsSpelling, IsNamed, IsAllowed}
 
--- a text is read as the value that it spells, if that is of its type, in range, and neither too large nor too high; and as nothing else
+-- a text is read as the value that it spells, if that is an allowed one, and as nothing else
 abbrev pub ReadIsSpelled : Type 0
 ReadIsSpelled =
     (table : Table) (t : Ty) (bs : List ℕ) (v : Value) → IsNamed table

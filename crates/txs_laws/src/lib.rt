@@ -14,7 +14,7 @@ mod sets;
 pub use answers::{atoms_decide, sat_is_true};
 pub use channels::no_channel_is_captured;
 pub use decided::{points_have_cells, sat_is_point, unsat_is_none};
-pub use filling::filled_is_under;
+pub use filling::{bare_is_under, filled_is_under};
 pub use items::{items_are_typed, runs_are_typed, steps_are_typed};
 pub use menus::items_are_steps;
 pub use paths::paths_are_bounded;

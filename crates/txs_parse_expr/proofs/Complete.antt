@@ -7,7 +7,8 @@ use Rattle.txs_lexer.specs.declared.word.TheConstants.{IN, NI, LET, IF, THEN, EL
 use Rattle.txs_syntax.specs.declared.ast.Op.{Op}
 use Rattle.txs_syntax.specs.declared.ast.Ast.{Ast}
 use Rattle.txs_syntax.specs.declared.ast.Ast.TheVariants as tree
-use Rattle.txs_syntax.specs.Grammar.{Tokens, Marked, tokens_of, Signs, sign_of, or_signs, and_signs, compare_signs, join_signs, sum_signs, product_signs, IsSymbol, IsWord, Layer, expr, conj, cmp, cat, sum, prod, un, prim, named, Bind, bound, SpellsAt, or_none, or_more, and_none, and_more, compare_none, compare_two, join_none, join_more, sums, products, Sums, sum_one, sum_more, Products, product_one, product_more, negated, plain, number, text, name, call_none, call_some, group, choose, bind, AllAt, last, more, BindAt, one_bind, BindsAt, last_bind, more_binds}
+use Rattle.txs_syntax.specs.declared.ast.Binding.{Binding}
+use Rattle.txs_syntax.specs.Grammar.{Tokens, Marked, tokens_of, Signs, sign_of, or_signs, and_signs, compare_signs, join_signs, sum_signs, product_signs, IsSymbol, IsWord, Layer, expr, conj, cmp, cat, sum, prod, un, prim, named, SpellsAt, or_none, or_more, and_none, and_more, compare_none, compare_two, join_none, join_more, sums, products, Sums, sum_one, sum_more, Products, product_one, product_more, negated, plain, number, text, name, call_none, call_some, group, choose, bind, AllAt, last, more, BindAt, one_bind, BindsAt, last_bind, more_binds}
 use Rattle.txs_syntax.specs.Places.{Shallow}
 use Rattle.txs_parse_expr.specs.Reader.{Outcome, ok, deep, after, Reader, is_symbol, is_word, on, expect, on_sign, right, many, where_room, group_at, if_at, let_at, bind_at, prim_at, full_at, readers}
 use Rattle.txs_parse_expr.proofs.Sound.{tokens_append, tokens_more, shallow_append}
@@ -48,7 +49,7 @@ prim_let : (left : ℕ) (c : Token) (ts : Tokens) → IsWord LET c → read prim
 prim_let left c ts e = rw e refl
 
 bind_value : (left : ℕ) (c i : Token) (x : List ℕ) (ts : Tokens) → c.kind ≡ Name x → IsSymbol IS i
-    → bind_at (readers (suc left)) (c ∷ i ∷ ts) ≡ after (read expr (suc left) ts) (λ y ts2. ok (named c x, y) ts2)
+    → bind_at (readers (suc left)) (c ∷ i ∷ ts) ≡ after (read expr (suc left) ts) (λ y ts2. ok (record { name = named c x; value = y }) ts2)
 bind_value left c i x ts e f = rw (e, f) refl
 
 sums_end : (k : ℕ) (a : Ast) (r : Tokens) → Stops sum r → (readers k).sums a r ≡ ok a r
@@ -314,20 +315,20 @@ module _ (limit : ℕ) where
       (ends_before (some (tokens_of u ++ (k ∷ r))) (tree.Call (named c x) es) ((d, c) ∷ (d, o) ∷ []) (u ++ (suc d, k) ∷ []) r (l, (l, tt)) y) in
       subst (λ us. Ends (read prim (suc left) (c ∷ o ∷ us)) (tree.Call (named c x) es) ((d, c) ∷ (d, o) ∷ (u ++ (suc d, k) ∷ [])) r) (sym is) z
 
-  complete_let : (left d : ℕ) (l : Token) (bs : List Bind) (e : Ast) (u v : Marked) (i n : Token) (r : Tokens) → IsWord IN i → IsWord NI n → BindsAt (suc d) bs u
+  complete_let : (left d : ℕ) (l : Token) (bs : List Binding) (e : Ast) (u v : Marked) (i n : Token) (r : Tokens) → IsWord IN i → IsWord NI n → BindsAt (suc d) bs u
       → Ends (many (bind_at (readers left)) SEMICOLON (suc (length (tokens_of u ++ (i ∷ (tokens_of (v ++ (suc d, n) ∷ []) ++ r))))) (tokens_of u ++ (i ∷ (tokens_of (v ++ (suc d, n) ∷ []) ++ r)))) bs u (i ∷ (tokens_of (v ++ (suc d, n) ∷ []) ++ r))
       → Ends (read expr left (tokens_of v ++ (n ∷ r))) e v (n ∷ r)
       → Ends (after (many (bind_at (readers left)) SEMICOLON (suc (length (tokens_of (u ++ (suc d, i) ∷ (v ++ (suc d, n) ∷ [])) ++ r))) (tokens_of (u ++ (suc d, i) ∷ (v ++ (suc d, n) ∷ [])) ++ r))
-      (λ cs ts1. expect (is_word IN) ts1 (λ ts2. after ((readers left).expr ts2) (λ e ts3. expect (is_word NI) ts3 (λ ts4. ok (bound l.from cs e) ts4)))))
-      (bound l.from bs e) (u ++ (suc d, i) ∷ (v ++ (suc d, n) ∷ [])) r
+      (λ cs ts1. expect (is_word IN) ts1 (λ ts2. after ((readers left).expr ts2) (λ e ts3. expect (is_word NI) ts3 (λ ts4. ok (tree.Let l.from cs e) ts4)))))
+      (tree.Let l.from bs e) (u ++ (suc d, i) ∷ (v ++ (suc d, n) ∷ [])) r
   complete_let left d l bs e u v i n r g h s all body =
       let w : Marked = v ++ (suc d, n) ∷ [] in
-      ends_then (λ ts. many (bind_at (readers left)) SEMICOLON (suc (length ts)) ts) _ bs (bound l.from bs e) u ((suc d, i) ∷ w) r
+      ends_then (λ ts. many (bind_at (readers left)) SEMICOLON (suc (length ts)) ts) _ bs (tree.Let l.from bs e) u ((suc d, i) ∷ w) r
       all
-      (λ sh. word_on IN (suc d) i (λ ts2. after ((readers left).expr ts2) (λ e ts3. expect (is_word NI) ts3 (λ ts4. ok (bound l.from bs e) ts4))) (bound l.from bs e) w r (rw g refl) (binds_below limit s sh)
-      (ends_then (read expr left) (λ x ts3. expect (is_word NI) ts3 (λ ts4. ok (bound l.from bs x) ts4)) e (bound l.from bs e) v ((suc d, n) ∷ []) r
+      (λ sh. word_on IN (suc d) i (λ ts2. after ((readers left).expr ts2) (λ e ts3. expect (is_word NI) ts3 (λ ts4. ok (tree.Let l.from bs e) ts4))) (tree.Let l.from bs e) w r (rw g refl) (binds_below limit s sh)
+      (ends_then (read expr left) (λ x ts3. expect (is_word NI) ts3 (λ ts4. ok (tree.Let l.from bs x) ts4)) e (tree.Let l.from bs e) v ((suc d, n) ∷ []) r
       body
-      (λ sv. word_end NI (suc d) n (bound l.from bs e) r (rw h refl) (binds_below limit s sh))))
+      (λ sv. word_end NI (suc d) n (tree.Let l.from bs e) r (rw h refl) (binds_below limit s sh))))
 
   mutual
     pub complete : {layer : Layer} {d : ℕ} {a : Ast} {u : Marked} → SpellsAt layer d a u → (left : ℕ) → left ≡ limit - d
@@ -387,8 +388,8 @@ module _ (limit : ℕ) where
         (λ sw. word_end FI (suc d) f (tree.If i.from p a b) r (rw k refl) (first_below limit (suc d) u (first x) sh))))))))
     complete (bind {d = d} {bs = bs} {e = e} {u = u} {v = v} l i n f g h s t) (suc left) q =
         λ r st. let ts : Tokens = tokens_of (u ++ (suc d, i) ∷ (v ++ (suc d, n) ∷ [])) ++ r in
-        ends_same (read prim (suc left) (l ∷ ts)) (let_at (readers left) l.from ts) (bound l.from bs e) ((d, l) ∷ (u ++ (suc d, i) ∷ (v ++ (suc d, n) ∷ []))) r
-        (prim_let left l ts f) (ends_token (let_at (readers left) l.from ts) (bound l.from bs e) d l (u ++ (suc d, i) ∷ (v ++ (suc d, n) ∷ [])) r (omega arith)
+        ends_same (read prim (suc left) (l ∷ ts)) (let_at (readers left) l.from ts) (tree.Let l.from bs e) ((d, l) ∷ (u ++ (suc d, i) ∷ (v ++ (suc d, n) ∷ []))) r
+        (prim_let left l ts f) (ends_token (let_at (readers left) l.from ts) (tree.Let l.from bs e) d l (u ++ (suc d, i) ∷ (v ++ (suc d, n) ∷ [])) r (omega arith)
         (complete_let left d l bs e u v i n r g h s
         (complete_binds s left (omega arith) (suc (length (tokens_of u ++ (i ∷ (tokens_of (v ++ (suc d, n) ∷ []) ++ r))))) (tokens_of (v ++ (suc d, n) ∷ []) ++ r) (omega (arith, length-append (tokens_of u) (i ∷ (tokens_of (v ++ (suc d, n) ∷ []) ++ r)))) i g)
         (complete t left (omega arith) (n ∷ r) (stops_word NI n r h))))
@@ -415,17 +416,17 @@ module _ (limit : ℕ) where
         (λ sh. symbol_on COMMA d c (λ ts2. after (many (read expr left) COMMA n ts2) (λ xs ts3. ok (e ∷ xs) ts3)) _ (e ∷ es) v (k ∷ r) (rw f refl) (first_below limit d u (first s) sh)
         (ends_done (many (read expr left) COMMA n (tokens_of v ++ (k ∷ r))) (λ xs ts3. ok (e ∷ xs) ts3) es (e ∷ es) v (k ∷ r) (complete_all t left q n r j k g) refl))
 
-    complete_bind : {d : ℕ} {b : Bind} {u : Marked} → BindAt d b u → (left : ℕ) → left ≡ limit - d → (r : Tokens) → Stops expr r
+    complete_bind : {d : ℕ} {b : Binding} {u : Marked} → BindAt d b u → (left : ℕ) → left ≡ limit - d → (r : Tokens) → Stops expr r
         → Ends (bind_at (readers left) (tokens_of u ++ r)) b u r
     complete_bind (one_bind {d = d} {e = e} {u = u} c i x f g s) zero q =
         λ r h. inr (sinks_first (bind_at (readers zero) (c ∷ i ∷ (tokens_of u ++ r))) d c ((d, i) ∷ u) r (omega arith) (rw f refl))
     complete_bind (one_bind {d = d} {e = e} {u = u} c i x f g s) (suc left) q =
-        λ r h. let p : Outcome Bind = after (read expr (suc left) (tokens_of u ++ r)) (λ y ts2. ok (named c x, y) ts2) in
-        ends_same (bind_at (readers (suc left)) (c ∷ i ∷ (tokens_of u ++ r))) p (named c x, e) ((d, c) ∷ (d, i) ∷ u) r (bind_value left c i x (tokens_of u ++ r) f g)
-        (ends_before p (named c x, e) ((d, c) ∷ (d, i) ∷ []) u r (omega arith, (omega arith, tt))
-        (ends_done (read expr (suc left) (tokens_of u ++ r)) (λ y ts2. ok (named c x, y) ts2) e (named c x, e) u r (complete s (suc left) q r h) refl))
+        λ r h. let p : Outcome Binding = after (read expr (suc left) (tokens_of u ++ r)) (λ y ts2. ok (record { name = named c x; value = y }) ts2) in
+        ends_same (bind_at (readers (suc left)) (c ∷ i ∷ (tokens_of u ++ r))) p (record { name = named c x; value = e }) ((d, c) ∷ (d, i) ∷ u) r (bind_value left c i x (tokens_of u ++ r) f g)
+        (ends_before p (record { name = named c x; value = e }) ((d, c) ∷ (d, i) ∷ []) u r (omega arith, (omega arith, tt))
+        (ends_done (read expr (suc left) (tokens_of u ++ r)) (λ y ts2. ok (record { name = named c x; value = y }) ts2) e (record { name = named c x; value = e }) u r (complete s (suc left) q r h) refl))
 
-    complete_binds : {d : ℕ} {bs : List Bind} {u : Marked} → BindsAt d bs u → (left : ℕ) → left ≡ limit - d → (n : ℕ) (r : Tokens) → length (tokens_of u) < n
+    complete_binds : {d : ℕ} {bs : List Binding} {u : Marked} → BindsAt d bs u → (left : ℕ) → left ≡ limit - d → (n : ℕ) (r : Tokens) → length (tokens_of u) < n
         → (k : Token) → IsWord IN k → Ends (many (bind_at (readers left)) SEMICOLON n (tokens_of u ++ (k ∷ r))) bs u (k ∷ r)
     complete_binds s left q zero r h k g = absurd (omega arith)
     complete_binds (last_bind {b = b} {u = u} s) left q (suc n) r h k g =

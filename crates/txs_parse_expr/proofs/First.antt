@@ -2,7 +2,8 @@
 use Rattle.std.proofs.Common.{◌≡◌, ℕ, ◌<◌, true, List, ◌∷◌, ◌++◌, refl, ap, subst}
 use Rattle.txs_lexer.specs.declared.token.Token.{Token}
 use Rattle.txs_syntax.specs.declared.ast.Ast.{Ast}
-use Rattle.txs_syntax.specs.Grammar.{Marked, Layer, SpellsAt, Sums, Products, AllAt, BindsAt, Bind, one_bind, last_bind, more_binds, or_none, or_more, and_none, and_more, compare_none, compare_two, join_none, join_more, sums, products, sum_one, sum_more, product_one, product_more, negated, plain, number, text, name, call_none, call_some, group, choose, bind, last, more}
+use Rattle.txs_syntax.specs.declared.ast.Binding.{Binding}
+use Rattle.txs_syntax.specs.Grammar.{Marked, Layer, SpellsAt, Sums, Products, AllAt, BindsAt, one_bind, last_bind, more_binds, or_none, or_more, and_none, and_more, compare_none, compare_two, join_none, join_more, sums, products, sum_one, sum_more, product_one, product_more, negated, plain, number, text, name, call_none, call_some, group, choose, bind, last, more}
 use Rattle.txs_syntax.specs.Places.{Shallow}
 use Rattle.txs_parse_expr.specs.Reader.{begins}
 
@@ -54,6 +55,6 @@ first_all (more {d = d} {v = v} c e s t) = first_more ((d, c) ∷ v) (first s)
 pub first_below : (limit d : ℕ) (u : Marked) → First d u → Shallow limit u → d < limit
 first_below limit d u f h = let k : Shallow limit ((d, f.token) ∷ f.rest) = subst (Shallow limit) f.is h in k.0
 
-pub binds_below : (limit : ℕ) {d : ℕ} {bs : List Bind} {u : Marked} → BindsAt d bs u → Shallow limit u → d < limit
+pub binds_below : (limit : ℕ) {d : ℕ} {bs : List Binding} {u : Marked} → BindsAt d bs u → Shallow limit u → d < limit
 binds_below limit (last_bind (one_bind c i x e f s)) h = h.0
 binds_below limit (more_binds c e (one_bind b i x f g s) t) h = h.0

@@ -9,7 +9,7 @@ use Rattle.txs_lexer.specs.declared.symbol.TheConstants.{MINUS, IS, OPEN, CLOSE,
 use Rattle.txs_lexer.specs.declared.word.TheConstants.{IN, NI, LET, IF, THEN, ELSE, FI}
 use Rattle.txs_syntax.specs.declared.ast.Ast.{Ast}
 use Rattle.txs_syntax.specs.declared.ast.Ast.TheVariants as tree
-use Rattle.txs_syntax.specs.Grammar.{Tokens, Marked, tokens_of, or_signs, and_signs, compare_signs, join_signs, sum_signs, product_signs, IsSymbol, IsWord, Layer, expr, conj, cmp, cat, sum, prod, un, prim, named, bound, SpellsAt, or_none, or_more, and_none, and_more, compare_none, compare_two, join_none, join_more, sums, products, Sums, sum_one, sum_more, Products, product_one, product_more, negated, plain, number, text, name, call_none, call_some, group, choose, bind, AllAt, last, more, BindAt, one_bind, BindsAt, last_bind, more_binds}
+use Rattle.txs_syntax.specs.Grammar.{Tokens, Marked, tokens_of, or_signs, and_signs, compare_signs, join_signs, sum_signs, product_signs, IsSymbol, IsWord, Layer, expr, conj, cmp, cat, sum, prod, un, prim, named, SpellsAt, or_none, or_more, and_none, and_more, compare_none, compare_two, join_none, join_more, sums, products, Sums, sum_one, sum_more, Products, product_one, product_more, negated, plain, number, text, name, call_none, call_some, group, choose, bind, AllAt, last, more, BindAt, one_bind, BindsAt, last_bind, more_binds}
 use Rattle.txs_syntax.specs.Places.{Shallow}
 use Rattle.txs_parse_expr.specs.Reader.{Outcome, ok, bad, deep, after, Reader, Readers, is_symbol, is_word, on, expect, many, call_at, group_at, if_at, value_at, bind_at, let_at, prim_at, un_at, prods_at, prod_at, sums_at, sum_at, cat_at, cmp_at, conj_at, expr_at, kind_begins, begins, full_at, full, level, readers}
 use Rattle.txs_parse_expr.proofs.Sound.{Fits, BeginsIn, Got, Stuck, Found, Sound, sound_map, sound_after, sound_within, sound_ok, sound_bad, sound_taken, sound_same, sound_on, sound_expect}
@@ -41,13 +41,13 @@ begin_symbol d c s false true is e q h =
     (tree.Group c.from zero_tree, (suc d, zero_token) ∷ (suc d, closing) ∷ [], plain (group c closing (is ∙ ap Symbol (eqb-true s OPEN q)) refl (zero_expr (suc d))))
 begin_symbol d c s false false is e q h = cc
 
-zero_bind : (d : ℕ) → BindAt d (named (made (Name [])) [], zero_tree) ((d, made (Name [])) ∷ (d, made (Symbol IS)) ∷ (d, zero_token) ∷ [])
+zero_bind : (d : ℕ) → BindAt d (record { name = named (made (Name [])) []; value = zero_tree }) ((d, made (Name [])) ∷ (d, made (Symbol IS)) ∷ (d, zero_token) ∷ [])
 zero_bind d = one_bind (made (Name [])) (made (Symbol IS)) [] refl refl (zero_expr d)
 
 begin_word : (d : ℕ) (c : Token) (s : ℕ) (t k : Bool) → c.kind ≡ Word s → eqb s LET ≡ t → eqb s IF ≡ k → (t || k) ≡ true
     → BeginsIn (SpellsAt un d) ((d, c) ∷ [])
 begin_word d c s true k is e q h = (
-  bound c.from ((named (made (Name [])) [], zero_tree) ∷ []) zero_tree,
+  tree.Let c.from ((record { name = named (made (Name [])) []; value = zero_tree }) ∷ []) zero_tree,
   (suc d, made (Name [])) ∷ (suc d, made (Symbol IS)) ∷ (suc d, zero_token) ∷ (suc d, made (Word IN)) ∷ (suc d, zero_token) ∷ (suc d, made (Word NI)) ∷ [],
   plain (bind c (made (Word IN)) (made (Word NI)) (is ∙ ap Word (eqb-true s LET e)) refl refl (last_bind (zero_bind (suc d))) (zero_expr (suc d))),
 )
@@ -196,10 +196,10 @@ module _ (limit : ℕ) where
     value_ok : suc d < limit → (c : Token) (x : List ℕ) → c.kind ≡ Name x → Sound limit (value_at within (named c x)) (λ b v. BindAt (suc d) b ((suc d, c) ∷ v))
     value_ok k c x is =
         sound_expect limit (suc d) (is_symbol IS) _ (λ b v. BindAt (suc d) b ((suc d, c) ∷ v)) k
-        (λ i e. sound_after limit within.expr (λ e ts2. ok (named c x, e) ts2) (SpellsAt expr (suc d)) (λ b v. BindAt (suc d) b ((suc d, c) ∷ (suc d, i) ∷ v)) all_ok.expr_ok
-        (λ a u s. sound_ok limit (named c x, a) (λ b v. BindAt (suc d) b ((suc d, c) ∷ (suc d, i) ∷ (u ++ v))) (rw append-nil (one_bind c i x is (symbol_is IS i e) s)))
-        (λ a u s. ((named c x, a), [], rw append-nil (one_bind c i x is (symbol_is IS i e) s))))
-        ((named c x, zero_tree), (suc d, made (Symbol IS)) ∷ (suc d, zero_token) ∷ [], one_bind c (made (Symbol IS)) x is refl (zero_expr (suc d)))
+        (λ i e. sound_after limit within.expr (λ e ts2. ok (record { name = named c x; value = e }) ts2) (SpellsAt expr (suc d)) (λ b v. BindAt (suc d) b ((suc d, c) ∷ (suc d, i) ∷ v)) all_ok.expr_ok
+        (λ a u s. sound_ok limit (record { name = named c x; value = a }) (λ b v. BindAt (suc d) b ((suc d, c) ∷ (suc d, i) ∷ (u ++ v))) (rw append-nil (one_bind c i x is (symbol_is IS i e) s)))
+        (λ a u s. ((record { name = named c x; value = a }), [], rw append-nil (one_bind c i x is (symbol_is IS i e) s))))
+        ((record { name = named c x; value = zero_tree }), (suc d, made (Symbol IS)) ∷ (suc d, zero_token) ∷ [], one_bind c (made (Symbol IS)) x is refl (zero_expr (suc d)))
 
     any_bind : BeginsIn (BindAt (suc d)) []
     any_bind = (_, _, zero_bind (suc d))
@@ -208,7 +208,7 @@ module _ (limit : ℕ) where
         → Found limit (bind_at within) (BindAt (suc d)) (c ∷ ts) (bind_at within (c ∷ ts))
     bind_name c x ts is true e =
         deep_token (suc d) (bind_at within) (BindAt (suc d)) c ts (all_ok.room e) (λ w. rw (is, e) refl)
-        ((named c x, zero_tree), (suc d, made (Symbol IS)) ∷ (suc d, zero_token) ∷ [], one_bind c (made (Symbol IS)) x is refl (zero_expr (suc d)))
+        ((record { name = named c x; value = zero_tree }), (suc d, made (Symbol IS)) ∷ (suc d, zero_token) ∷ [], one_bind c (made (Symbol IS)) x is refl (zero_expr (suc d)))
     bind_name c x ts is false e =
         sound_taken limit (suc d) c (bind_at within) (value_at within (named c x)) (BindAt (suc d)) (all_ok.has_room e) (λ w. rw (is, e) refl) ts (value_ok (all_ok.has_room e) c x is ts)
 
@@ -233,11 +233,11 @@ module _ (limit : ℕ) where
       let_ok =
           sound_within limit (λ ts. many (bind_at within) SEMICOLON (suc (length ts)) ts) _ (BindsAt (suc d)) (λ a v. SpellsAt prim d a ((d, i) ∷ v)) binds_ok
           (λ bs u s h. word_then (binds_below limit s h) IN _ (λ x v. SpellsAt prim d x ((d, i) ∷ (u ++ v)))
-          (λ t et e v y. word_last (suc d) (binds_below limit s h) NI (bound i.from bs e) (λ x z. SpellsAt prim d x ((d, i) ∷ (u ++ ((suc d, t) ∷ (v ++ z)))))
+          (λ t et e v y. word_last (suc d) (binds_below limit s h) NI (tree.Let i.from bs e) (λ x z. SpellsAt prim d x ((d, i) ∷ (u ++ ((suc d, t) ∷ (v ++ z)))))
           (λ n en. bind i t n is et en s y))
-          (λ t et e v y. (bound i.from bs e, (suc d, made (Word NI)) ∷ [], bind i t (made (Word NI)) is et refl s y)))
+          (λ t et e v y. (tree.Let i.from bs e, (suc d, made (Word NI)) ∷ [], bind i t (made (Word NI)) is et refl s y)))
           (λ bs u s. (
-            bound i.from bs zero_tree,
+            tree.Let i.from bs zero_tree,
             (suc d, made (Word IN)) ∷ (suc d, zero_token) ∷ (suc d, made (Word NI)) ∷ [],
             bind i (made (Word IN)) (made (Word NI)) is refl refl s (zero_expr (suc d)),
           ))

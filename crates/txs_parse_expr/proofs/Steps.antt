@@ -7,7 +7,8 @@ use Rattle.txs_syntax.specs.declared.ast.Name.{Name}
 use Rattle.txs_syntax.specs.declared.ast.Op.{Op}
 use Rattle.txs_syntax.specs.declared.ast.Ast.{Ast}
 use Rattle.txs_syntax.specs.declared.ast.Ast.TheVariants as tree
-use Rattle.txs_syntax.specs.Grammar.{Tokens, Signs, sign_of, or_signs, and_signs, compare_signs, join_signs, sum_signs, product_signs, expr, SpellsAt, BindAt, Bind, bound}
+use Rattle.txs_syntax.specs.declared.ast.Binding.{Binding}
+use Rattle.txs_syntax.specs.Grammar.{Tokens, Signs, sign_of, or_signs, and_signs, compare_signs, join_signs, sum_signs, product_signs, expr, SpellsAt, BindAt}
 use Rattle.txs_parse_expr.specs.declared.fault.Stop.{Stop}
 use Rattle.txs_parse_expr.specs.declared.fault.Stop.TheVariants.{Unexpected, Deep, NoMemory}
 use Rattle.txs_parse_expr.specs.Reader.{Outcome, ok, bad, deep, after, Reader, is_symbol, is_word, at_token, on, expect, by_op, on_sign, right, chain, many, where_room, call_at, group_at, if_at, value_at, bind_at, let_at, prim_at, un_at, readers}
@@ -296,21 +297,21 @@ module _ (left : ℕ) (room : 0 < left) (ts : Tokens) (n : ℕ) where
 -- ---- bindings
 
 module _ (left : ℕ) where
-  abbrev pub binds : Tokens → Outcome (List Bind)
+  abbrev pub binds : Tokens → Outcome (List Binding)
   binds ts = many (bind_at (readers left)) SEMICOLON (suc (length ts)) ts
 
-  abbrev after_bind : Bind → Tokens → Outcome (List Bind)
+  abbrev after_bind : Binding → Tokens → Outcome (List Binding)
   after_bind x r = on (is_symbol SEMICOLON) r (λ r2. after (binds r2) (λ xs r3. ok (x ∷ xs) r3)) (ok (x ∷ []) r)
 
   binds_is : (ts : Tokens) → binds ts ≡ after (bind_at (readers left) ts) after_bind
   binds_is ts = all_is (suc left) (bind_at (readers left)) SEMICOLON (shorter (suc left) (bind_at (readers left)) (BindAt 1) (bind_ok (suc left) 0 (omega arith) (readers left) (sound_readers (suc left) left 1 (omega arith)))) ts
 
-  binds_more : (items : List Bind) (e : Bind) (o : Outcome (List Bind)) → with_front items (after o (λ xs r. ok (e ∷ xs) r)) ≡ with_front (items ++ e ∷ []) o
+  binds_more : (items : List Binding) (e : Binding) (o : Outcome (List Binding)) → with_front items (after o (λ xs r. ok (e ∷ xs) r)) ≡ with_front (items ++ e ∷ []) o
   binds_more items e (ok xs r) = ap (λ l. ok l r) (sym (append_assoc items (e ∷ []) xs))
   binds_more items e (bad r) = refl
   binds_more items e (deep r) = refl
 
-  pub binds_next : (ts : Tokens) (items : List Bind) (n m : ℕ) (e : Bind) → bind_at (readers left) (drop n ts) ≡ ok e (drop m ts)
+  pub binds_next : (ts : Tokens) (items : List Binding) (n m : ℕ) (e : Binding) → bind_at (readers left) (drop n ts) ≡ ok e (drop m ts)
       → true ≡ on (is_symbol SEMICOLON) (drop m ts) (λ _. true) false → with_front items (binds (drop n ts)) ≡ with_front (items ++ e ∷ []) (binds (drop (m + 1) ts))
   binds_next ts items n m e read h =
       ap (with_front items) (binds_is (drop n ts) ∙ (ap (λ o. after o after_bind) read ∙ on_step (is_symbol SEMICOLON) ts m h (λ r2. after (binds r2) (λ xs r3. ok (e ∷ xs) r3)) (ok (e ∷ []) (drop m ts))))
@@ -318,13 +319,13 @@ module _ (left : ℕ) where
 
 -- ---- LET
 
-module _ (l : ℕ) (ts r : Tokens) (at : ℕ) (n : ℕ) (bs : List Bind) (read : binds l r ≡ ok bs (drop n ts)) (word : true ≡ on (is_word IN) (drop n ts) (λ _. true) false) where
+module _ (l : ℕ) (ts r : Tokens) (at : ℕ) (n : ℕ) (bs : List Binding) (read : binds l r ≡ ok bs (drop n ts)) (word : true ≡ on (is_word IN) (drop n ts) (λ _. true) false) where
   abbrev body_part : Ast → Tokens → Outcome Ast
-  body_part e ts3 = expect (is_word NI) ts3 (λ ts4. ok (bound at bs e) ts4)
+  body_part e ts3 = expect (is_word NI) ts3 (λ ts4. ok (tree.Let at bs e) ts4)
 
   let_first : let_at (readers l) at r ≡ after ((readers l).expr (drop (n + 1) ts)) body_part
   let_first =
-      ap (λ o. after o (λ cs ts1. expect (is_word IN) ts1 (λ ts2. after ((readers l).expr ts2) (λ e ts3. expect (is_word NI) ts3 (λ ts4. ok (bound at cs e) ts4))))) read
+      ap (λ o. after o (λ cs ts1. expect (is_word IN) ts1 (λ ts2. after ((readers l).expr ts2) (λ e ts3. expect (is_word NI) ts3 (λ ts4. ok (tree.Let at cs e) ts4))))) read
       ∙ on_step (is_word IN) ts n word (λ ts2. after ((readers l).expr ts2) body_part) (bad (drop n ts))
 
   pub let_stopped : (e : Stop) → Stopped ts e ((readers l).expr (drop (n + 1) ts)) → Stopped ts e (let_at (readers l) at r)
@@ -332,28 +333,24 @@ module _ (l : ℕ) (ts r : Tokens) (at : ℕ) (n : ℕ) (bs : List Bind) (read :
 
   pub let_no_end : (m : ℕ) (a : Ast) → (readers l).expr (drop (n + 1) ts) ≡ ok a (drop m ts) → false ≡ on (is_word NI) (drop m ts) (λ _. true) false
       → let_at (readers l) at r ≡ bad (drop m ts)
-  let_no_end m a q h = let_first ∙ (ap (λ o. after o body_part) q ∙ on_stop (is_word NI) (drop m ts) h (λ ts4. ok (bound at bs a) ts4) (bad (drop m ts)))
+  let_no_end m a q h = let_first ∙ (ap (λ o. after o body_part) q ∙ on_stop (is_word NI) (drop m ts) h (λ ts4. ok (tree.Let at bs a) ts4) (bad (drop m ts)))
 
   pub let_end : (m : ℕ) (a f : Ast) → (readers l).expr (drop (n + 1) ts) ≡ ok a (drop m ts) → true ≡ on (is_word NI) (drop m ts) (λ _. true) false
-      → f ≡ bound at bs a → let_at (readers l) at r ≡ ok f (drop (m + 1) ts)
+      → f ≡ tree.Let at bs a → let_at (readers l) at r ≡ ok f (drop (m + 1) ts)
   let_end m a f q h g =
-      let_first ∙ (ap (λ o. after o body_part) q ∙ (on_step (is_word NI) ts m h (λ ts4. ok (bound at bs a) ts4) (bad (drop m ts)) ∙ ap (λ x. ok x (drop (m + 1) ts)) (sym g)))
+      let_first ∙ (ap (λ o. after o body_part) q ∙ (on_step (is_word NI) ts m h (λ ts4. ok (tree.Let at bs a) ts4) (bad (drop m ts)) ∙ ap (λ x. ok x (drop (m + 1) ts)) (sym g)))
 
 -- ---- one binding
 
 module _ (l : ℕ) (ts : Tokens) (n : ℕ) (x : Name) (h : true ≡ on (is_symbol IS) (drop n ts) (λ _. true) false) where
-  value_is : value_at (readers l) x (drop n ts) ≡ after ((readers l).expr (drop (n + 1) ts)) (λ e ts2. ok (x, e) ts2)
-  value_is = on_step (is_symbol IS) ts n h (λ ts1. after ((readers l).expr ts1) (λ e ts2. ok (x, e) ts2)) (bad (drop n ts))
+  value_is : value_at (readers l) x (drop n ts) ≡ after ((readers l).expr (drop (n + 1) ts)) (λ e ts2. ok (record { name = x; value = e }) ts2)
+  value_is = on_step (is_symbol IS) ts n h (λ ts1. after ((readers l).expr ts1) (λ e ts2. ok (record { name = x; value = e }) ts2)) (bad (drop n ts))
 
   pub value_stopped : (e : Stop) → Stopped ts e ((readers l).expr (drop (n + 1) ts)) → Stopped ts e (value_at (readers l) x (drop n ts))
-  value_stopped e k = subst (Stopped ts e) (sym value_is) (stopped_after ts e ((readers l).expr (drop (n + 1) ts)) (λ e ts2. ok (x, e) ts2) k)
+  value_stopped e k = subst (Stopped ts e) (sym value_is) (stopped_after ts e ((readers l).expr (drop (n + 1) ts)) (λ e ts2. ok (record { name = x; value = e }) ts2) k)
 
-  pub value_read : (e : Ast) (m : ℕ) (y : Name) → (readers l).expr (drop (n + 1) ts) ≡ ok e (drop m ts) → y ≡ x → value_at (readers l) x (drop n ts) ≡ ok (y, e) (drop m ts)
-  value_read e m y q g = value_is ∙ (ap (λ o. after o (λ e ts2. ok (x, e) ts2)) q ∙ ap (λ z. ok (z, e) (drop m ts)) (sym g))
-
-pub bound_last : (at : ℕ) (bs : List Bind) (x : Name) (v e : Ast) → bound at (bs ++ (x, v) ∷ []) e ≡ bound at bs (tree.Let at x v e)
-bound_last at [] x v e = refl
-bound_last at (b ∷ bs) x v e = ap (tree.Let at b.0 b.1) (bound_last at bs x v e)
+  pub value_read : (e a : Ast) (m : ℕ) (y : Name) → (readers l).expr (drop (n + 1) ts) ≡ ok e (drop m ts) → y ≡ x → a ≡ e → value_at (readers l) x (drop n ts) ≡ ok (record { name = y; value = a }) (drop m ts)
+  value_read e a m y q g k = rw (g, k) (value_is ∙ ap (λ o. after o (λ e ts2. ok (record { name = x; value = e }) ts2)) q)
 
 pub room_is : {B : Type 0} (l : ℕ) → (l ≡ 0 → ⊥) → (ts : Tokens) (o : Outcome B) → where_room (readers l).is_full ts o ≡ o
 room_is zero h ts o = absurd (h refl)

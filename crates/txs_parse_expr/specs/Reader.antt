@@ -9,7 +9,8 @@ use Rattle.txs_syntax.specs.declared.ast.Name as rust
 use Rattle.txs_syntax.specs.declared.ast.Op.{Op}
 use Rattle.txs_syntax.specs.declared.ast.Ast.{Ast}
 use Rattle.txs_syntax.specs.declared.ast.Ast.TheVariants as tree
-use Rattle.txs_syntax.specs.Grammar.{Tokens, Signs, sign_of, or_signs, and_signs, compare_signs, join_signs, sum_signs, product_signs, named, Bind, bound}
+use Rattle.txs_syntax.specs.declared.ast.Binding.{Binding}
+use Rattle.txs_syntax.specs.Grammar.{Tokens, Signs, sign_of, or_signs, and_signs, compare_signs, join_signs, sum_signs, product_signs, named}
 
 -- Read, with the tokens that are left; or the tokens from the first bad one on; or those from the one that is too deep.
 pub data Outcome (A : Type 0) : Type 0 where
@@ -110,24 +111,24 @@ module _ (within : Readers) where
       after (within.expr ts2) (λ a ts3. expect (is_word ELSE) ts3 (λ ts4.
       after (within.expr ts4) (λ b ts5. expect (is_word FI) ts5 (λ ts6. ok (tree.If at c a b) ts6))))))
 
-  abbrev pub value_at : rust.Name → Tokens → Outcome Bind
-  value_at x ts = expect (is_symbol IS) ts (λ ts1. after (within.expr ts1) (λ e ts2. ok (x, e) ts2))
+  abbrev pub value_at : rust.Name → Tokens → Outcome Binding
+  value_at x ts = expect (is_symbol IS) ts (λ ts1. after (within.expr ts1) (λ e ts2. ok (record { name = x; value = e }) ts2))
 
-  abbrev pub bind_of : Kind → Token → Tokens → Outcome Bind
+  abbrev pub bind_of : Kind → Token → Tokens → Outcome Binding
   bind_of (Name x) c ts = where_room within.is_full (c ∷ ts) (value_at (named c x) ts)
   bind_of (Symbol s) c ts = bad (c ∷ ts)
   bind_of (Word w) c ts = bad (c ∷ ts)
   bind_of (Number n) c ts = bad (c ∷ ts)
   bind_of (Quoted s) c ts = bad (c ∷ ts)
 
-  abbrev pub bind_at : Tokens → Outcome Bind
+  abbrev pub bind_at : Tokens → Outcome Binding
   bind_at [] = bad []
   bind_at (c ∷ ts) = bind_of c.kind c ts
 
   abbrev pub let_at : ℕ → Reader
   let_at at ts =
       after (many bind_at SEMICOLON (suc (length ts)) ts) (λ bs ts1. expect (is_word IN) ts1 (λ ts2.
-      after (within.expr ts2) (λ e ts3. expect (is_word NI) ts3 (λ ts4. ok (bound at bs e) ts4))))
+      after (within.expr ts2) (λ e ts3. expect (is_word NI) ts3 (λ ts4. ok (tree.Let at bs e) ts4))))
 
   abbrev pub prim_of : Kind → Token → Reader
   prim_of (Number n) c ts = ok (tree.Number c.from n) ts

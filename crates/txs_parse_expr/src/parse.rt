@@ -10,14 +10,14 @@ use crate::fault::{ParseFault, Stop, fault_of};
 use crate::sign::{Strength, sign_at};
 use crate::token::{has_symbol, has_word, minus_at, too_deep};
 use crate::tree::{
-    binary, call_of, choice, group, name_at, negate, nest, number, quoted, variable,
+    binary, call_of, choice, group, let_of, name_at, negate, number, quoted, variable,
 };
 use sqlite_items::{Boxed, Items};
 use std::alloc::Global;
 use txs_lexer::symbol::{CLOSE, COMMA, IS, OPEN, SEMICOLON};
 use txs_lexer::word::{ELSE, FI, IF, IN, LET, NI, THEN};
 use txs_lexer::{Kind, Token, Tokens};
-use txs_syntax::{Ast, Name};
+use txs_syntax::{Ast, Binding};
 use txs_values::Text;
 
 /// The depth that no token may have.
@@ -334,7 +334,7 @@ fn lets(
     if !has_word(tokens, next, NI) {
         return Err(Stop::Unexpected(next));
     }
-    Ok((nest(alloc, offset, list, e)?, next + 1))
+    Ok((let_of(alloc, offset, list, e)?, next + 1))
 }
 
 /// Bind { ";" Bind }
@@ -344,7 +344,7 @@ fn binds(
     tokens: &[Token],
     at: usize,
     left: u32,
-) -> Result<(Items<(Name, Boxed<Ast>)>, usize), Stop>
+) -> Result<(Items<Binding>, usize), Stop>
     ensures value { Says tokens.now result (reader.many (reader.bind_at (readers left)) 43 (suc (length (drop at tokens.now))) (drop at tokens.now)) }
     ensures forward { IfOk result (λ p. at < p.1) }
     ensures within { IfOk result (λ p. p.1 ≤ length tokens.now) }
@@ -363,12 +363,7 @@ fn binds(
 
 /// Bind
 #[cycle(expr)]
-fn bind(
-    alloc: Global,
-    tokens: &[Token],
-    at: usize,
-    left: u32,
-) -> Result<((Name, Boxed<Ast>), usize), Stop>
+fn bind(alloc: Global, tokens: &[Token], at: usize, left: u32) -> Result<(Binding, usize), Stop>
     ensures value { Says tokens.now result (reader.bind_at (readers left) (drop at tokens.now)) }
     ensures forward { IfOk result (λ p. at < p.1) }
     ensures within { IfOk result (λ p. p.1 ≤ length tokens.now) }
@@ -394,7 +389,7 @@ fn bind_value(
     left: u32,
     offset: usize,
     text: &Text,
-) -> Result<((Name, Boxed<Ast>), usize), Stop>
+) -> Result<(Binding, usize), Stop>
     requires { at < length tokens.now }
     ensures value { Says tokens.now result (reader.where_room (readers left).is_full (drop at tokens.now) (reader.value_at (readers left) (record { at = offset; text = text.now }) (drop (at + 1) tokens.now))) }
     ensures forward { IfOk result (λ p. at < p.1) }
@@ -415,7 +410,7 @@ fn value(
     left: u32,
     offset: usize,
     text: &Text,
-) -> Result<((Name, Boxed<Ast>), usize), Stop>
+) -> Result<(Binding, usize), Stop>
     ensures value { Says tokens.now result (reader.value_at (readers left) (record { at = offset; text = text.now }) (drop at tokens.now)) }
     ensures forward { IfOk result (λ p. at < p.1) }
     ensures within { IfOk result (λ p. p.1 ≤ length tokens.now) }
@@ -425,7 +420,11 @@ fn value(
     }
     let (e, next) = expr(alloc, tokens, at + 1, left)?;
     let name = name_at(alloc, offset, text)?;
-    Ok(((name, e), next))
+    let bind = Binding {
+        name,
+        value: e.into_inner(),
+    };
+    Ok((bind, next))
 }
 
 /// The longest run of tokens, from the one with the number `from` on, with which the tokens of some expression begin: where it is itself an expression, that one and the number of the token after it. Else `Unexpected` is at the token after the run, or at `len`, the length of the text, where no token is left. `depth` is the depth at the first token; `Deep` is at the first token of the run whose depth is more than 500, and goes before the other answers.

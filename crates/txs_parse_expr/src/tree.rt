@@ -1,12 +1,11 @@
 ghost use Rattle.std.specs.Prelude.{◌≡◌, MatchResult};
 ghost use Rattle.txs_parse_expr.specs.declared.fault.Stop.TheVariants.{NoMemory};
 ghost use Rattle.txs_syntax.specs.declared.ast.Ast.TheVariants as tree;
-ghost use Rattle.txs_syntax.specs.Grammar as grammar;
 
 use crate::fault::Stop;
 use sqlite_items::{Boxed, Items};
 use std::alloc::Global;
-use txs_syntax::{Ast, Name, Op};
+use txs_syntax::{Ast, Binding, Name, Op};
 use txs_values::Text;
 
 /// The name, at its place.
@@ -90,25 +89,14 @@ pub fn choice(
     Ok(Boxed::new(alloc, tree)?)
 }
 
-/// Each binding around the ones after it.
-pub fn nest(
+pub fn let_of(
     alloc: Global,
     at: usize,
-    list: Items<(Name, Boxed<Ast>)>,
-    e: Boxed<Ast>,
+    bindings: Items<Binding>,
+    body: Boxed<Ast>,
 ) -> Result<Boxed<Ast>, Stop>
-    ensures { MatchResult result (λ t. t ≡ grammar.bound at list e) (λ f. f ≡ NoMemory) }
+    ensures { MatchResult result (λ e. e ≡ tree.Let at bindings body) (λ f. f ≡ NoMemory) }
 {
-    let mut list = list;
-    let mut body = e;
-    while let Some((name, value)) = list.pop() {
-        let tree = Ast::Let {
-            at,
-            name,
-            value,
-            body,
-        };
-        body = Boxed::new(alloc, tree)?;
-    }
-    Ok(body)
+    let tree = Ast::Let { at, bindings, body };
+    Ok(Boxed::new(alloc, tree)?)
 }

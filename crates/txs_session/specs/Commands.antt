@@ -1,6 +1,6 @@
 -- The command of a line.
 use Rattle.std.specs.Prelude.{ℕ, ◌-◌, ℤ, ◌&&◌, List, [], ◌∷◌, length, take, cond, eqb, nat_lt, Option, Some, None, bytes_eq, codes, slice_index}
-use Rattle.txs_values.specs.Spelling.{read_text}
+use Rattle.txs_values.specs.Reading.{read_text}
 use Rattle.txs_values.specs.Value.{Value, num, bool, text, cons, integer}
 use Rattle.txs_session.specs.declared.command.Command.{Command}
 use Rattle.txs_session.specs.declared.command.Command.TheVariants.{Pass, Quit, Tester, Observe, Stimulate, Refused}

@@ -10,6 +10,7 @@ use Rattle.txs_syntax.specs.declared.ast.Op.{Op}
 use Rattle.txs_syntax.specs.declared.ast.Op.TheVariants as op
 use Rattle.txs_syntax.specs.declared.ast.Ast.{Ast}
 use Rattle.txs_syntax.specs.declared.ast.Ast.TheVariants as tree
+use Rattle.txs_syntax.specs.declared.ast.Binding.{Binding}
 
 abbrev pub Tokens : Type 0
 Tokens = List Token
@@ -86,15 +87,6 @@ pub data Layer : Type 0 where
 abbrev pub named : Token → List ℕ → Name
 named c x = record { at = c.from; text = x }
 
--- a name and what it is bound to
-abbrev pub Bind : Type 0
-Bind = Name × Ast
-
--- each binding around the ones after it
-abbrev pub bound : ℕ → List Bind → Ast → Ast
-bound at [] e = e
-bound at (b ∷ bs) e = tree.Let at b.0 b.1 (bound at bs e)
-
 mutual
   -- tokens that spell a tree, from depth d on
   pub data SpellsAt : Layer → ℕ → Ast → Marked → Type 0 where
@@ -139,9 +131,9 @@ mutual
         → SpellsAt expr (suc d) p u → SpellsAt expr (suc d) a v → SpellsAt expr (suc d) b w
         → SpellsAt prim d (tree.If i.from p a b) ((d, i) ∷ (u ++ (suc d, t) ∷ (v ++ (suc d, l) ∷ (w ++ (suc d, f) ∷ []))))
     --      | LET Bind { ";" Bind } IN Expr NI
-    bind : {d : ℕ} {bs : List Bind} {e : Ast} {u v : Marked} (l i n : Token) → IsWord LET l → IsWord IN i → IsWord NI n
+    bind : {d : ℕ} {bs : List Binding} {e : Ast} {u v : Marked} (l i n : Token) → IsWord LET l → IsWord IN i → IsWord NI n
         → BindsAt (suc d) bs u → SpellsAt expr (suc d) e v
-        → SpellsAt prim d (bound l.from bs e) ((d, l) ∷ (u ++ (suc d, i) ∷ (v ++ (suc d, n) ∷ [])))
+        → SpellsAt prim d (tree.Let l.from bs e) ((d, l) ∷ (u ++ (suc d, i) ∷ (v ++ (suc d, n) ∷ [])))
 
   -- operands from depth d on, the last of them at depth k: each stands one deeper than the one before it
   pub data Sums : ℕ → ℕ → Ast → Marked → Type 0 where
@@ -161,14 +153,14 @@ mutual
         → SpellsAt expr d e u → AllAt d es v → AllAt d (e ∷ es) (u ++ (d, c) ∷ v)
 
   -- Bind = Name "=" Expr
-  pub data BindAt : ℕ → Bind → Marked → Type 0 where
+  pub data BindAt : ℕ → Binding → Marked → Type 0 where
     one_bind : {d : ℕ} {e : Ast} {u : Marked} (c i : Token) (x : List ℕ) → c.kind ≡ kind.Name x → IsSymbol IS i
-        → SpellsAt expr d e u → BindAt d (named c x, e) ((d, c) ∷ (d, i) ∷ u)
+        → SpellsAt expr d e u → BindAt d (record { name = named c x; value = e }) ((d, c) ∷ (d, i) ∷ u)
 
   -- Bind { ";" Bind }
-  pub data BindsAt : ℕ → List Bind → Marked → Type 0 where
-    last_bind : {d : ℕ} {b : Bind} {u : Marked} → BindAt d b u → BindsAt d (b ∷ []) u
-    more_binds : {d : ℕ} {b : Bind} {bs : List Bind} {u v : Marked} (c : Token) → IsSymbol SEMICOLON c
+  pub data BindsAt : ℕ → List Binding → Marked → Type 0 where
+    last_bind : {d : ℕ} {b : Binding} {u : Marked} → BindAt d b u → BindsAt d (b ∷ []) u
+    more_binds : {d : ℕ} {b : Binding} {bs : List Binding} {u v : Marked} (c : Token) → IsSymbol SEMICOLON c
         → BindAt d b u → BindsAt d bs v → BindsAt d (b ∷ bs) (u ++ (d, c) ∷ v)
 
 -- the tokens spell the expression

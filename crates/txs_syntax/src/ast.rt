@@ -27,7 +27,8 @@ pub enum Op {
     Remainder,
 }
 
-/// An expression; `at` is the byte of the text at which its first token begins. That of an operator's is the left operand's. A LET of several names stands as one LET within the other, each with the place of the word.
+/// An expression; `at` is the byte of the text at which its first token begins. That of an operator's is the left operand's. A name of a LET is seen in the bindings after it and in the body.
+#[cycle(ast)]
 #[derive(Debug, Drop)]
 pub enum Ast {
     Number {
@@ -65,8 +66,15 @@ pub enum Ast {
     },
     Let {
         at: usize,
-        name: Name,
-        value: Boxed<Ast>,
+        bindings: Items<Binding>,
         body: Boxed<Ast>,
     },
+}
+
+/// A name of a LET, with the expression that it is bound to.
+#[cycle(ast)]
+#[derive(Debug, Drop)]
+pub struct Binding {
+    pub name: Name,
+    pub value: Ast,
 }

@@ -4,5 +4,5 @@
 mod ast;
 mod file;
 
-pub use ast::{Ast, Name, Op};
+pub use ast::{Ast, Binding, Name, Op};
 pub use file::{ConDef, Decl, DeclList, Def, File};

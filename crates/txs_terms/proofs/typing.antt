@@ -3,4 +3,5 @@ pub mod Reading
 pub mod Lists
 pub mod Putting
 pub mod Outcomes
+pub mod Checks
 pub mod Runs

@@ -1,6 +1,5 @@
 -- Closing a set by levels, and moving it by an action.
 use Rattle.std.specs.Prelude.{◌≡◌, ◌≢◌, ℕ, suc, ◌+◌, Bool, true, false, ◌||◌, ltb, ◌⊎◌, List, [], ◌∷◌, ◌++◌, length, Option, Some, None}
-use Rattle.txs_values.specs.Value.{Value}
 use Rattle.txs_terms.specs.Expr.{put_all, filled}
 use Rattle.txs_terms.specs.Eval.{Defs}
 use Rattle.txs_terms.specs.Action.{Action, Channels, channels, values, same_channels, Scope}

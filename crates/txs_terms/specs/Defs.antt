@@ -4,7 +4,7 @@ use Rattle.txs_values.specs.Value.{Ty, Table}
 use Rattle.txs_values.specs.Spelled.{IsNamed}
 use Rattle.txs_terms.specs.Expr.{Expr}
 use Rattle.txs_terms.specs.Eval.{Defs}
-use Rattle.txs_terms.specs.Typed.{Signature, Signatures, IsType, AreTypes, AreTyped}
+use Rattle.txs_terms.specs.Typed.{Signatures, IsType, AreTypes, AreTyped}
 
 -- a function, its body over its parameters
 pub record Function : Type 0 where
@@ -25,7 +25,11 @@ pub record Definitions : Type 0 where
 
 -- what evaluation sees of them
 abbrev pub bodies : Definitions → Defs
-bodies d = record { table = d.table; functions = map (λ f. f.body) d.functions; constants = map (λ k. k.body) d.constants }
+bodies d = record {
+  table = d.table;
+  functions = map (λ f. record { takes = f.takes; body = f.body }) d.functions;
+  constants = map (λ k. k.body) d.constants;
+}
 
 -- what typing sees of them
 abbrev pub signatures_of : Definitions → Signatures

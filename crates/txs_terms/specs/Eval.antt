@@ -1,17 +1,22 @@
 -- Evaluation by value, from left to right, with limits of height and nodes.
-use Rattle.std.specs.Prelude.{◌≡◌, ℕ, zero, suc, ℤ, pos, negsuc, ◌+ℤ◌, ◌-ℤ◌, ◌*ℤ◌, neg_ℤ, int_div, int_rem, true, false, not, cond, ltb, eqb, List, [], ◌∷◌, ◌++◌, length, Option, Some, None, slice_get, int_lt, int_le, chars, encode_utf8}
-use Rattle.txs_values.specs.Value.{Ty, integer, truth, string, named, Value, num, bool, text, cons, listed, packed, size, height, Table, same_value, fits, value_size_limit, value_height_limit}
+use Rattle.std.specs.Prelude.{◌≡◌, ℕ, zero, suc, ℤ, pos, negsuc, ◌+ℤ◌, ◌-ℤ◌, ◌*ℤ◌, neg_ℤ, int_div, int_rem, Bool, true, false, not, ◌||◌, cond, ltb, eqb, List, [], ◌∷◌, ◌++◌, length, Option, Some, None, slice_get, int_lt, int_le, chars, encode_utf8}
+use Rattle.txs_values.specs.Value.{Ty, integer, truth, string, named, Value, num, bool, text, cons, listed, packed, size, height, Table, Place, place_of, field_types, has_fields, same_value, fits, value_size_limit, value_height_limit}
 use Rattle.txs_values.specs.Text.{text_of}
-use Rattle.txs_values.specs.Spelling.{read_text}
+use Rattle.txs_values.specs.Reading.{read_text}
 use Rattle.txs_terms.specs.Expr.{Unary, negate, negation, to_text, from_text, len, is_made_by, select, Binary, plus, minus, times, divide, remainder, concat, differ, less_than, at_most, more_than, at_least, char_at, Expr, val, slot, local, constant, one, two, equal, both, either, choose, apply, build, let_in, Exprs, none, more, put, with_local, filled}
 
--- the types, the functions, each body over its parameters, and the constants
+-- the types of a function's parameters, and its body over them
+pub record Body : Type 0 where
+  pub takes : List Ty
+  pub body : Expr
+
+-- the types, the functions and the constants
 pub record Defs : Type 0 where
   pub table : Table
-  pub functions : List Expr
+  pub functions : List Body
   pub constants : List Expr
 
--- `wrong` is met by no expression that is well typed
+-- `wrong` is met where values are of other types than what takes them asks for, too many or too few, or where nothing has a number
 pub data Fault : Type 0 where
   division : Fault
   range : Fault
@@ -122,7 +127,63 @@ binary o (text a) (text b) = text_binary o a b
 binary char_at (text a) (num i) = char_from a i
 binary o x y = other_binary o x y
 
+-- ---- the types that values have to have
+
+-- whether two constructors stand in the table, with one type
+abbrev pub have_one_type : Option Place → Option Place → Bool
+have_one_type None q = false
+have_one_type (Some p) None = false
+have_one_type (Some p) (Some q) = eqb p.ty q.ty
+
+-- whether two constructors are of one type; each is of one with itself
+abbrev pub are_akin : Table → ℕ → ℕ → Bool
+are_akin table c d = eqb c d || have_one_type (place_of table c) (place_of table d)
+
+-- whether two values are of one type
+abbrev pub are_comparable : Table → Value → Value → Bool
+are_comparable table (num x) (num y) = true
+are_comparable table (bool a) (bool b) = true
+are_comparable table (text a) (text b) = true
+are_comparable table (cons c vs) (cons d ws) = are_akin table c d
+are_comparable table x y = false
+
+-- whether a value is of the type of this constructor
+abbrev pub is_akin : Table → ℕ → Value → Bool
+is_akin table c (num x) = false
+is_akin table c (bool b) = false
+is_akin table c (text bs) = false
+is_akin table c (cons d vs) = are_akin table c d
+
+-- a test or a selector takes values of its constructor's type; `unary` says which the others take
+abbrev pub takes_one : Table → Unary → Value → Bool
+takes_one table (is_made_by c) x = is_akin table c x
+takes_one table (select c i) x = is_akin table c x
+takes_one table _ x = true
+
+-- `<>` takes two values of one type; `binary` says which the others take
+abbrev pub takes_two : Table → Binary → Value → Value → Bool
+takes_two table differ x y = are_comparable table x y
+takes_two table _ x y = true
+
+-- whether there is one value of each type
+abbrev pub have_types : Table → List Value → List Ty → Bool
+have_types table vs ts = has_fields table (packed vs) (Some ts)
+
+-- the types of the fields of a constructor that stands here
+abbrev pub fields_at : Option Place → Option (List Ty)
+fields_at None = None
+fields_at (Some p) = Some (field_types p.constructor.fields)
+
+-- whether there is one value for each field of a constructor, of its type
+abbrev pub takes_fields : Table → ℕ → List Value → Bool
+takes_fields table c vs = has_fields table (packed vs) (fields_at (place_of table c))
+
 -- ---- runs
+
+-- goes on if the values are of their types
+abbrev pub checked : Bool → Run → Run
+checked true r = r
+checked false r = bad wrong
 
 abbrev pub after : Outcome → ℕ → Run
 after (fine v) n = got v n
@@ -159,7 +220,7 @@ if_true (bool false) a b = b
 if_true (text bs) a b = bad wrong
 if_true (cons c vs) a b = bad wrong
 
-abbrev pub body_run : Option Expr → (Expr → Run) → Run
+abbrev pub body_run : {A : Type 0} → Option A → (A → Run) → Run
 body_run None go = bad wrong
 body_run (Some e) go = go e
 
@@ -170,15 +231,19 @@ module _ (defs : Defs) (ev : Eval) where
   node (slot i) n = bad wrong
   node (local i) n = bad wrong
   node (constant k) n = body_run (slice_get defs.constants k) (λ e. ev e n)
-  node (one o a) n = then_run (ev a n) (λ x. after (unary defs.table o x))
-  node (two o a b) n = then_run (ev a n) (λ x m. then_run (ev b m) (λ y. after (binary o x y)))
-  node (equal a b) n = then_run (ev a n) (λ x m. then_run (ev b m) (λ y. got (bool (same_value x y))))
+  node (one o a) n = then_run (ev a n) (λ x m. checked (takes_one defs.table o x) (after (unary defs.table o x) m))
+  node (two o a b) n =
+      then_run (ev a n) (λ x m. then_run (ev b m) (λ y k. checked (takes_two defs.table o x y) (after (binary o x y) k)))
+  node (equal a b) n =
+      then_run (ev a n) (λ x m. then_run (ev b m) (λ y k. checked (are_comparable defs.table x y) (got (bool (same_value x y)) k)))
   node (both a b) n = then_run (ev a n) (λ x m. if_true x (ev b m) (got (bool false) m))
   node (either a b) n = then_run (ev a n) (λ x m. if_true x (got (bool true) m) (ev b m))
   node (choose c a b) n = then_run (ev c n) (λ x m. if_true x (ev a m) (ev b m))
   node (apply f es) n =
-      then_runs (each ev es n) (λ vs m. body_run (slice_get defs.functions f) (λ e. ev (put (filled vs) e) m))
-  node (build c es) n = then_runs (each ev es n) (λ vs. after (sized (cons c (packed vs))))
+      then_runs (each ev es n)
+      (λ vs m. body_run (slice_get defs.functions f) (λ b. checked (have_types defs.table vs b.takes) (ev (put (filled vs) b.body) m)))
+  node (build c es) n =
+      then_runs (each ev es n) (λ vs m. checked (takes_fields defs.table c vs) (after (sized (cons c (packed vs))) m))
   node (let_in x a b) n = then_run (ev a n) (λ v. ev (with_local v b))
 
 abbrev pub bool_true : Value

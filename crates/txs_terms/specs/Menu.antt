@@ -1,7 +1,7 @@
 -- The menu of a term: its items, or the fault with which its walk ends.
 use Rattle.std.specs.Prelude.{ℕ, zero, suc, ◌+◌, ◌-◌, Bool, true, false, ◌&&◌, ◌||◌, not, cond, eqb, ltb, List, [], ◌∷◌, ◌++◌, map, length, Option, Some, None, slice_get}
 use Rattle.txs_values.specs.Value.{Value, num, bool, text, cons, same_value, size}
-use Rattle.txs_terms.specs.Expr.{Expr, val, slot, local, constant, one, two, equal, both, either, choose, apply, build, let_in, Puts, put, put_all, filled, moved, has_slot, exprs_nodes}
+use Rattle.txs_terms.specs.Expr.{Expr, val, slot, equal, Puts, put, put_all, filled, moved, has_slot, exprs_nodes}
 use Rattle.txs_terms.specs.Eval.{Defs, Run, got, bad, eval}
 use Rattle.txs_terms.specs.Action.{Channels, has, kept, none_in, joins, union, in_order, Scope, arity, from}
 use Rattle.txs_terms.specs.Term.{Name, Position, give, take, Offer, Term, stop, exits, prefix, step, guard, choice, par, enable, disable, interrupt, hide, call, bind, machine, hit, miss, put_term, fill, instance, term_nodes, channels_bound, Move, Automaton, move_term}

@@ -194,11 +194,11 @@ module _ (table : Table) (signatures : Signatures) where
 
 -- ---- definitions and models
 
--- the bodies of functions and constants have their types
+-- functions take what their signatures say, and their bodies and those of constants have their types
 pub record AreTyped (defs : Defs) (signatures : Signatures) : Type 0 where
   pub table : IsTable defs.table
   pub functions : (f : ℕ) (s : Signature) → slice_get signatures.functions f ≡ Some s
-      → (e : Expr) × (slice_get defs.functions f ≡ Some e) × Of defs.table signatures s.takes [] e s.gives
+      → (e : Expr) × (slice_get defs.functions f ≡ Some (record { takes = s.takes; body = e })) × Of defs.table signatures s.takes [] e s.gives
   pub constants : (k : ℕ) (t : Ty) → slice_get signatures.constants k ≡ Some t
       → (e : Expr) × (slice_get defs.constants k ≡ Some e) × Of defs.table signatures [] [] e t
 

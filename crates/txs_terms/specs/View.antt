@@ -1,9 +1,10 @@
 -- The expressions, actions and terms that the program's types stand for.
-use Rattle.std.specs.Prelude.{List, [], ◌∷◌, map}
+use Rattle.std.specs.Prelude.{ℕ, List, [], ◌∷◌, map}
 use Rattle.txs_values.specs.View.{values_of, value_of, ty_of}
 use Rattle.txs_values.specs.Value.{Table}
 use Rattle.txs_terms.specs.declared.expr.Expr as rust_expr
-use Rattle.txs_terms.specs.declared.expr.Expr.TheOpen.{Expr-F}
+use Rattle.txs_terms.specs.declared.expr.Binding as rust_binding
+use Rattle.txs_terms.specs.declared.expr.Expr.TheOpen.{Expr-F, Binding-F}
 use Rattle.txs_terms.specs.declared.expr.Expr.TheFolds.{fold-Expr}
 use Rattle.txs_terms.specs.declared.expr.Unary as rust_unary
 use Rattle.txs_terms.specs.declared.expr.Unary.TheVariants as unary
@@ -23,7 +24,7 @@ use Rattle.txs_terms.specs.declared.term.Top.TheVariants as top
 use Rattle.txs_terms.specs.declared.defs.FunctionDef as rust_function
 use Rattle.txs_terms.specs.declared.defs.ConstantDef as rust_constant
 use Rattle.txs_terms.specs.Defs.{Function, Constant, Definitions}
-use Rattle.txs_terms.specs.Expr.{Unary, negate, negation, to_text, from_text, len, is_made_by, select, Binary, plus, minus, times, divide, remainder, concat, differ, less_than, at_most, more_than, at_least, char_at, Expr, val, slot, local, constant, one, two, equal, both, either, choose, apply, build, let_in, Exprs, none, more}
+use Rattle.txs_terms.specs.Expr.{Unary, negate, negation, to_text, from_text, len, is_made_by, select, Binary, plus, minus, times, divide, remainder, concat, differ, less_than, at_most, more_than, at_least, char_at, Expr, val, slot, local, constant, one, two, equal, both, either, choose, apply, build, let_in, Exprs, none, more, Puts, put}
 use Rattle.txs_terms.specs.Action.{Part, Action}
 use Rattle.txs_terms.specs.Term.{Position, give, take, Offer, Term, stop, exits, prefix, step, guard, choice, par, enable, disable, interrupt, hide, call, bind, machine, hit, miss}
 
@@ -55,8 +56,24 @@ abbrev pub gathered : List Expr → Exprs
 gathered [] = none
 gathered (e ∷ es) = more e (gathered es)
 
+-- a name with the expression that it is bound to
+abbrev pub Bound : Type 0
+Bound = List ℕ × Expr
+
+-- Names bound in turn around a body: each is seen in the ones after it and in the body.
+abbrev pub let_all : List Bound → Expr → Expr
+let_all [] e = e
+let_all (b ∷ bs) e = let_in b.0 b.1 (let_all bs e)
+
+-- a binding whose expression is filled
+abbrev pub put_bound : Puts → Bound → Bound
+put_bound f b = (b.0, put f b.1)
+
+abbrev pub bound_step : Binding-F Expr Bound → Bound
+bound_step b = (b.name, b.value)
+
 -- one level, with each expression below already seen
-abbrev pub expr_step : Expr-F Expr → Expr
+abbrev pub expr_step : Expr-F Expr Bound → Expr
 expr_step (Expr-F.Value v) = val (value_of v)
 expr_step (Expr-F.Slot i) = slot i
 expr_step (Expr-F.Local i) = local i
@@ -69,10 +86,16 @@ expr_step (Expr-F.Or a b) = either a b
 expr_step (Expr-F.If c a b) = choose c a b
 expr_step (Expr-F.Call f es) = apply f (gathered es)
 expr_step (Expr-F.Build c es) = build c (gathered es)
-expr_step (Expr-F.Let x a b) = let_in x a b
+expr_step (Expr-F.Let bs e) = let_all bs e
 
 abbrev pub expr_of : rust_expr.Expr → Expr
-expr_of = fold-Expr Expr expr_step
+expr_of = fold-Expr Expr Bound expr_step bound_step
+
+abbrev pub bound_of : rust_binding.Binding → Bound
+bound_of b = (b.name, expr_of b.value)
+
+abbrev pub bounds_of : List rust_binding.Binding → List Bound
+bounds_of bs = map bound_of bs
 
 abbrev pub exprs_of : List rust_expr.Expr → List Expr
 exprs_of es = map expr_of es

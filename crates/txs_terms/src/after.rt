@@ -18,6 +18,9 @@ use sqlite_items::Items;
 use std::alloc::Global;
 use txs_values::{NoMemory, Value};
 
+/// A LET that binds nothing is its body.
+#[cycle(is_number)]
+#[tactic(auto, using(crate::proofs::Views::none_bound, crate::proofs::Views::some_bound))]
 fn is_number(expr: &Expr, value: &Value) -> bool
     ensures { result ≡ is_number (expr_of expr.now) (value_of value.now) }
 {
@@ -26,6 +29,13 @@ fn is_number(expr: &Expr, value: &Value) -> bool
             Value::Int(y) => *x == *y,
             _ => false,
         },
+        Expr::Let(bindings, body) => {
+            if bindings.as_slice().len() == 0 {
+                is_number(body.get(), value)
+            } else {
+                false
+            }
+        }
         _ => false,
     }
 }

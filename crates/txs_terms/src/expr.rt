@@ -39,7 +39,8 @@ pub enum Binary {
     CharAt,
 }
 
-/// An expression. Slot 0 is the outermost variable around it, and local 0 the outermost LET in it.
+/// An expression. Slot 0 is the outermost variable around it, and local 0 the outermost name of a LET in it.
+#[cycle(expr)]
 #[derive(Debug, Drop)]
 pub enum Expr {
     Value(Value),
@@ -56,9 +57,23 @@ pub enum Expr {
     Call(u32, SharedExprs),
     /// A constructor with its fields, one at least.
     Build(u32, SharedExprs),
-    /// A name, which is printed, for a value in an expression.
-    Let(Text, Shared<Expr>, Shared<Expr>),
+    /// Names for values in an expression, each of which is a local in the bindings after it too.
+    Let(SharedBindings, Shared<Expr>),
 }
+
+/// A name, which is printed, with the expression that it is bound to.
+#[cycle(expr)]
+#[derive(Debug, Drop)]
+pub struct Binding {
+    pub name: Text,
+    pub value: Expr,
+}
+
+/// The bindings of a LET, in order.
+pub type Bindings = Items<Binding>;
+
+/// The bindings of a LET with several owners.
+pub type SharedBindings = SharedItems<Binding>;
 
 /// Several expressions, in order.
 pub type Exprs = Items<Expr>;
@@ -99,10 +114,9 @@ pub fn copy_expr(alloc: Global, expr: &Expr) -> Result<Expr, NoMemory>
         }
         Expr::Call(function, args) => Ok(Expr::Call(*function, args.share()?)),
         Expr::Build(constructor, fields) => Ok(Expr::Build(*constructor, fields.share()?)),
-        Expr::Let(name, a, b) => {
-            let name = name.copy(alloc)?;
-            let a = a.share()?;
-            Ok(Expr::Let(name, a, b.share()?))
+        Expr::Let(bindings, body) => {
+            let bindings = bindings.share()?;
+            Ok(Expr::Let(bindings, body.share()?))
         }
     }
 }

@@ -2,9 +2,9 @@ ghost use Rattle.std.specs.Prelude.{◌≡◌, IfOk, map};
 ghost use Rattle.txs_values.specs.View.{values_of};
 ghost use Rattle.txs_terms.specs.Expr.{put, put_all, filled};
 ghost use Rattle.txs_terms.specs.Term.{put_position, put_offer, fill};
-ghost use Rattle.txs_terms.specs.View.{expr_of, exprs_of, position_of, offer_of, offers_of, tree_of, term_of};
+ghost use Rattle.txs_terms.specs.View.{bounds_of, expr_of, exprs_of, position_of, put_bound, offer_of, offers_of, tree_of, term_of};
 
-use crate::expr::{Expr, Exprs};
+use crate::expr::{Binding, Bindings, Expr, Exprs};
 use crate::offer::{Offer, Offers, Position, Positions};
 use crate::term::Term;
 use crate::tree::Tree;
@@ -64,10 +64,10 @@ fn fill_expr(alloc: Global, expr: &Expr, values: &[Value]) -> Result<Expr, NoMem
             let fields = fill_exprs(alloc, fields.as_slice(), values)?;
             Ok(Expr::Build(*constructor, SharedItems::new(alloc, fields)?))
         }
-        Expr::Let(name, a, b) => {
-            let name = name.copy(alloc)?;
-            let a = fill_shared(alloc, a, values)?;
-            Ok(Expr::Let(name, a, fill_shared(alloc, b, values)?))
+        Expr::Let(bindings, body) => {
+            let bindings = fill_bindings(alloc, bindings.as_slice(), values)?;
+            let bindings = SharedItems::new(alloc, bindings)?;
+            Ok(Expr::Let(bindings, fill_shared(alloc, body, values)?))
         }
     }
 }
@@ -91,6 +91,24 @@ fn fill_exprs(alloc: Global, exprs: &[Expr], values: &[Value]) -> Result<Exprs, 
     let mut filled = Items::new(alloc);
     for expr in exprs {
         filled.push(fill_expr(alloc, expr, values)?)?;
+    }
+    Ok(filled)
+}
+
+#[cycle(fill_all)]
+fn fill_bindings(
+    alloc: Global,
+    bindings: &[Binding],
+    values: &[Value],
+) -> Result<Bindings, NoMemory>
+    ensures { IfOk result (λ bs. bounds_of bs
+        ≡ map (put_bound (filled (values_of values.now))) (bounds_of bindings.now)) }
+{
+    let mut filled = Items::new(alloc);
+    for binding in bindings {
+        let name = binding.name.copy(alloc)?;
+        let value = fill_expr(alloc, &binding.value, values)?;
+        filled.push(Binding { name, value })?;
     }
     Ok(filled)
 }

@@ -5,4 +5,5 @@ pub mod Inside
 pub mod Finish
 pub mod CallNodes
 pub mod Sides
+pub mod Bindings
 pub mod Told

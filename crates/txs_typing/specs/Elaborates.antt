@@ -7,8 +7,9 @@ use Rattle.txs_syntax.specs.declared.ast.Name.{Name}
 use Rattle.txs_syntax.specs.declared.ast.Op.{Op}
 use Rattle.txs_syntax.specs.declared.ast.Op.TheVariants as op
 use Rattle.txs_syntax.specs.declared.ast.Ast.{Ast}
+use Rattle.txs_syntax.specs.declared.ast.Binding.{Binding}
 use Rattle.txs_syntax.specs.declared.ast.Ast.TheVariants as tree
-use Rattle.txs_syntax.specs.declared.ast.Ast.TheOpen.{Ast-F}
+use Rattle.txs_syntax.specs.declared.ast.Ast.TheOpen.{Ast-F, Binding-F}
 use Rattle.txs_syntax.specs.declared.ast.Ast.TheFolds.{fold-Ast}
 use Rattle.txs_typing.specs.Names.{Scope, Fits, inside, meaning, called, Meaning, named_function, named_constructor, named_test, named_selector, named_not, named_to_string, named_from_string, named_len, named_at}
 
@@ -37,8 +38,16 @@ pub data Comparison : Op → (Expr → Expr → Expr) → Type 0 where
   equal_comparison : Comparison op.Equal equal
   different_comparison : Comparison op.Different (two differ)
 
+-- of a binding is known what is known of its value
+abbrev pub value_step : {A : Type 0} → Binding-F A A → A
+value_step b = b.value
+
+-- what is known of a tree, by what is known of one level
+abbrev pub folded : (A : Type 0) → (Ast-F A A → A) → Ast → A
+folded A step = fold-Ast A A step value_step
+
 -- one level, of whose parts this is known
-abbrev pub outside_step : Ast-F Bool → Bool
+abbrev pub outside_step : Ast-F Bool Bool → Bool
 outside_step (Ast-F.Number at n) = false
 outside_step (Ast-F.Text at s) = false
 outside_step (Ast-F.Name x) = false
@@ -47,11 +56,11 @@ outside_step (Ast-F.Negate at a) = false
 outside_step (Ast-F.Binary o a b) = false
 outside_step (Ast-F.Group at a) = a
 outside_step (Ast-F.If at p a b) = a
-outside_step (Ast-F.Let at x a b) = b
+outside_step (Ast-F.Let at bs b) = b
 
 -- The tree can be typed from outside alone: it is a call of fromString, or a bracket around one, a LET whose body or an IF whose THEN branch is so.
 abbrev pub from_outside : Ast → Bool
-from_outside = fold-Ast Bool outside_step
+from_outside = folded Bool outside_step
 
 -- the right side of a comparison is typed first
 abbrev pub right_first : Ast → Ast → Bool
@@ -106,9 +115,13 @@ mutual
     chosen_freely : {scope : Scope} {at : ℕ} (p a b : Ast) {c e f : Expr} {q s t : Ty} → Elaborates scope (Some truth) p c q
         → Elaborates scope None a e t → Elaborates scope (Some t) b f s
         → Elaborates scope None (tree.If at p a b) (choose c e f) t
-    bound : {scope : Scope} {want : Option Ty} {at : ℕ} {x : Name} (a b : Ast) {e f : Expr} {s t : Ty} → Elaborates scope None a e s
-        → Elaborates (inside scope x.text s) want b f t
-        → Elaborates scope want (tree.Let at x a b) (let_in x.text e f) t
+    -- the first name of a LET is seen in the bindings after it and in the body
+    bound : {scope : Scope} {want : Option Ty} {at : ℕ} (b : Binding) (bs : List Binding) (c : Ast) {e f : Expr} {s t : Ty} → Elaborates scope None b.value e s
+        → Elaborates (inside scope b.name.text s) want (tree.Let at bs c) f t
+        → Elaborates scope want (tree.Let at (b ∷ bs) c) (let_in b.name.text e f) t
+    -- after the last one stands the body
+    unbound : {scope : Scope} {want : Option Ty} {at : ℕ} (c : Ast) {e : Expr} {t : Ty} → Elaborates scope want c e t
+        → Elaborates scope want (tree.Let at [] c) e t
 
   -- each tree, needed so, means its expression
   pub data ElaboratesEach : Scope → List (Option Ty) → List Ast → List Expr → Type 0 where
@@ -122,7 +135,7 @@ all_true [] = true
 all_true (b ∷ bs) = b && all_true bs
 
 -- one level, of whose parts this is known
-abbrev pub ints_step : Ast-F Bool → Bool
+abbrev pub ints_step : Ast-F Bool Bool → Bool
 ints_step (Ast-F.Number at n) = fits n
 ints_step (Ast-F.Text at s) = true
 ints_step (Ast-F.Name x) = true
@@ -131,8 +144,8 @@ ints_step (Ast-F.Negate at a) = a
 ints_step (Ast-F.Binary o a b) = a && b
 ints_step (Ast-F.Group at a) = a
 ints_step (Ast-F.If at p a b) = p && (a && b)
-ints_step (Ast-F.Let at x a b) = a && b
+ints_step (Ast-F.Let at bs b) = all_true bs && b
 
 -- the numbers of the tree are in the range of Int
 abbrev pub HasInts : Ast → Type 0
-HasInts tree = fold-Ast Bool ints_step tree ≡ true
+HasInts tree = folded Bool ints_step tree ≡ true

@@ -1,15 +1,15 @@
 -- What offends in a tree, and where; which of several offences decides.
-use Rattle.std.specs.Prelude.{◌≡◌, ◌≢◌, ◌⊎◌, ◌<◌, ◌≤◌, ℕ, Bool, true, false, cond, List, length, Option, Some, None, slice_get}
+use Rattle.std.specs.Prelude.{◌≡◌, ◌≢◌, ◌⊎◌, ◌<◌, ◌≤◌, ℕ, Bool, true, false, cond, List, [], ◌∷◌, length, Option, Some, None, slice_get}
 use Rattle.txs_values.specs.Value.{Ty, integer, truth}
 use Rattle.txs_terms.specs.Expr.{Expr}
 use Rattle.txs_syntax.specs.declared.ast.Name.{Name}
 use Rattle.txs_syntax.specs.declared.ast.Op.{Op}
 use Rattle.txs_syntax.specs.declared.ast.Ast.{Ast}
+use Rattle.txs_syntax.specs.declared.ast.Binding.{Binding}
 use Rattle.txs_syntax.specs.declared.ast.Ast.TheVariants as tree
 use Rattle.txs_syntax.specs.declared.ast.Ast.TheOpen.{Ast-F}
-use Rattle.txs_syntax.specs.declared.ast.Ast.TheFolds.{fold-Ast}
 use Rattle.txs_typing.specs.Names.{Scope, Fits, anything, inside, meaning, called, Meaning, named_from_string}
-use Rattle.txs_typing.specs.Elaborates.{Operator, Comparison, right_first, Elaborates, ElaboratesEach}
+use Rattle.txs_typing.specs.Elaborates.{folded, Operator, Comparison, right_first, Elaborates, ElaboratesEach}
 
 -- an offence at an offset of the text
 pub data Offence : Type 0 where
@@ -21,7 +21,7 @@ pub data Offence : Type 0 where
   big_type : ℕ → Offence
 
 -- one level, whose parts start at these offsets
-abbrev pub start_step : Ast-F ℕ → ℕ
+abbrev pub start_step : Ast-F ℕ ℕ → ℕ
 start_step (Ast-F.Number at n) = at
 start_step (Ast-F.Text at s) = at
 start_step (Ast-F.Name x) = x.at
@@ -30,14 +30,14 @@ start_step (Ast-F.Negate at a) = at
 start_step (Ast-F.Binary o a b) = a
 start_step (Ast-F.Group at a) = at
 start_step (Ast-F.If at p a b) = at
-start_step (Ast-F.Let at x a b) = at
+start_step (Ast-F.Let at bs b) = at
 
 -- the offset of an expression's first token
 abbrev pub start : Ast → ℕ
-start = fold-Ast ℕ start_step
+start = folded ℕ start_step
 
 -- one level
-abbrev pub keeps_need_step : Ast-F Bool → Bool
+abbrev pub keeps_need_step : Ast-F Bool Bool → Bool
 keeps_need_step (Ast-F.Number at n) = true
 keeps_need_step (Ast-F.Text at s) = true
 keeps_need_step (Ast-F.Name x) = true
@@ -46,11 +46,11 @@ keeps_need_step (Ast-F.Negate at a) = true
 keeps_need_step (Ast-F.Binary o a b) = true
 keeps_need_step (Ast-F.Group at a) = false
 keeps_need_step (Ast-F.If at p a b) = false
-keeps_need_step (Ast-F.Let at x a b) = false
+keeps_need_step (Ast-F.Let at bs b) = false
 
 -- the tree keeps the need to itself: it is no bracket, IF or LET, which hand the need on to what is in them
 abbrev pub KeepsNeed : Ast → Type 0
-KeepsNeed a = fold-Ast Bool keeps_need_step a ≡ true
+KeepsNeed a = folded Bool keeps_need_step a ≡ true
 
 -- the side of a comparison that is typed first, and the other one
 abbrev pub earlier : Ast → Ast → Ast
@@ -113,10 +113,13 @@ mutual
     -- if no type is needed, ELSE is needed at the type of THEN
     else_like_then : {at : ℕ} {scope : Scope} {s : Ty} {i : ℕ} (p a b : Ast) {o : Offence}
         → Shows scope a s → Offends scope (Some s) b o → OffendsAt at scope None (tree.If i p a b) o
-    bound_value : {at : ℕ} {scope : Scope} {want : Option Ty} {l : ℕ} {x : Name} (a b : Ast) {o : Offence}
-        → Offends scope None a o → OffendsAt at scope want (tree.Let l x a b) o
-    body : {at : ℕ} {scope : Scope} {want : Option Ty} {l : ℕ} {x : Name} (a b : Ast) {o : Offence} {s : Ty}
-        → Shows scope a s → Offends (inside scope x.text s) want b o → OffendsAt at scope want (tree.Let l x a b) o
+    -- the value of a LET's first name, what comes after it, where the name is seen, and after the last one the body
+    bound_value : {at : ℕ} {scope : Scope} {want : Option Ty} {l : ℕ} (b : Binding) (bs : List Binding) (c : Ast) {o : Offence}
+        → Offends scope None b.value o → OffendsAt at scope want (tree.Let l (b ∷ bs) c) o
+    after_value : {at : ℕ} {scope : Scope} {want : Option Ty} {l : ℕ} (b : Binding) (bs : List Binding) (c : Ast) {o : Offence} {s : Ty}
+        → Shows scope b.value s → Offends (inside scope b.name.text s) want (tree.Let l bs c) o → OffendsAt at scope want (tree.Let l (b ∷ bs) c) o
+    body : {at : ℕ} {scope : Scope} {want : Option Ty} {l : ℕ} (c : Ast) {o : Offence}
+        → Offends scope want c o → OffendsAt at scope want (tree.Let l [] c) o
 
   -- the offence stands in the tree, whose offset is that of its first token
   pub data Offends : Scope → Option Ty → Ast → Offence → Type 0 where

@@ -5,20 +5,21 @@ ghost use Rattle.txs_typing.specs.Answer.{Told, want_of};
 ghost use Rattle.txs_typing.specs.Offends.{Offends, earlier, later};
 ghost use Rattle.txs_typing.specs.inner.View.{scope_of, wants_of, Judges, JudgesAt};
 ghost use Rattle.txs_typing.specs.inner.Parts.{Typed as TheTyped, Means, Tells, Sides, InOrder, OffendInOrder, JudgesEach, Strays};
+ghost use Rattle.txs_typing.specs.inner.Bindings.{IsWithin, JudgesValues};
 
 use crate::call::{called_with, gathered, stray_needs, strayed};
 use crate::fault::TypeFault;
 use crate::fitting::{fitted, shown, start};
 use crate::joined::{joined, turned};
 use crate::leaf::{named, number, quoted};
-use crate::node::{bound, chosen, negated, operated};
+use crate::node::{bound, chosen, negated, operated, with_value};
 use crate::operator::{operand, outcome, right_first};
 use crate::scope::Scope;
 use crate::typed::Typed;
 use sqlite_items::{Boxed, Items};
 use std::alloc::Global;
-use txs_syntax::{Ast, Name, Op};
-use txs_terms::Exprs;
+use txs_syntax::{Ast, Binding, Name, Op};
+use txs_terms::{Bindings, Exprs};
 use txs_values::Ty;
 
 /// The expression that a tree means if a type is needed, or none, or the offence in it that decides.
@@ -63,12 +64,9 @@ fn judge(
             no,
             ..
         } => choice(alloc, scope, want, condition, yes, no),
-        Ast::Let {
-            name,
-            value,
-            body,
-            ..
-        } => binding(alloc, scope, want, name, value, body),
+        Ast::Let { bindings, body, .. } => {
+            binding(alloc, scope, want, bindings.as_slice(), body)
+        }
     }
 }
 
@@ -264,27 +262,39 @@ fn choice(
     }
 }
 
-/// A name for a value in an expression.
+/// Names for values in an expression.
 #[cycle(expression)]
 fn binding(
     alloc: Global,
     scope: &mut Scope,
     want: Option<Ty>,
-    name: &Name,
-    value: &Boxed<Ast>,
+    bindings: &[Binding],
     body: &Boxed<Ast>,
 ) -> Result<Typed, TypeFault>
-    ensures judged { (at offset : ℕ) → JudgesAt at (scope_of scope.old) (want_of want) (tree.Let offset name.now value.now body.now) result }
+    ensures judged { (at offset : ℕ) → JudgesAt at (scope_of scope.old) (want_of want) (tree.Let offset bindings.now body.now) result }
     ensures kept { scope.new ≡ scope.old }
 {
-    let a = expression(alloc, scope, None, value.get());
-    let ty = shown(scope, &a);
-    match scope.bind(alloc, &name.text, ty) {
-        Ok(()) => {
-            let b = expression(alloc, scope, want, body.get());
-            scope.unbind();
-            bound(alloc, &name.text, joined(a, b))
-        }
-        Err(_) => Err(TypeFault::NoMemory),
+    let outer = scope.locals.len();
+    let values = values(alloc, scope, bindings);
+    let found = expression(alloc, scope, want, body.get());
+    scope.leave(outer);
+    bound(alloc, joined(values, found))
+}
+
+/// The values of the names, each of which is a local from then on.
+#[cycle(expression)]
+fn values(alloc: Global, scope: &mut Scope, bindings: &[Binding]) -> Result<Bindings, TypeFault>
+    ensures judged { JudgesValues (scope_of scope.old) bindings.now (scope_of scope.new) result }
+    ensures kept { IsWithin scope.old scope.new }
+{
+    let mut so_far = Ok(Items::new(alloc));
+    for binding in bindings {
+        let found = expression(alloc, scope, None, &binding.value);
+        let ty = shown(scope, &found);
+        so_far = match scope.bind(alloc, &binding.name.text, ty) {
+            Ok(()) => with_value(alloc, so_far, &binding.name.text, found),
+            Err(_) => Err(TypeFault::NoMemory),
+        };
     }
+    so_far
 }

@@ -1,17 +1,18 @@
 ghost use Rattle.std.specs.Prelude.{◌≡◌, MatchResult};
 ghost use Rattle.txs_values.specs.View.{ty_of};
 ghost use Rattle.txs_terms.specs.Expr as of;
-ghost use Rattle.txs_terms.specs.View.{expr_of};
+ghost use Rattle.txs_terms.specs.View.{bounds_of, expr_of, let_all};
 ghost use Rattle.txs_typing.specs.Answer.{want_of};
 ghost use Rattle.txs_typing.specs.inner.Parts as parts;
 ghost use Rattle.txs_typing.specs.inner.Parts.{Typed as TheTyped, Made, MadeTyped};
+ghost use Rattle.txs_typing.specs.inner.Bindings.{typed_let, GathersValue};
 
-use crate::fault::TypeFault;
+use crate::fault::{TypeFault, lesser};
 use crate::typed::Typed;
 use std::alloc::Global;
 use txs_syntax::Op;
-use txs_terms::{Binary, Expr, Unary};
-use txs_values::{NoMemory, Shared, Text, Ty};
+use txs_terms::{Binary, Binding, Bindings, Expr, Unary};
+use txs_values::{NoMemory, Shared, SharedItems, Text, Ty};
 
 /// The operator of these sides.
 fn combined(op: Op, a: Shared<Expr>, b: Shared<Expr>) -> Expr
@@ -96,26 +97,46 @@ pub fn chosen(
     }
 }
 
-fn local(alloc: Global, name: &Text, value: Expr, body: Expr) -> Result<Expr, NoMemory>
-    ensures { MatchResult result (λ e. expr_of e ≡ of.let_in name.now (expr_of value) (expr_of body)) (λ f. Unit {0}) }
+/// The values so far and one more, or of the faults the one that decides.
+pub fn with_value(
+    alloc: Global,
+    so_far: Result<Bindings, TypeFault>,
+    name: &Text,
+    found: Result<Typed, TypeFault>,
+) -> Result<Bindings, TypeFault>
+    ensures { GathersValue name.now so_far found result }
 {
-    let name = name.copy(alloc)?;
-    let value = Shared::new(alloc, value)?;
-    Ok(Expr::Let(name, value, Shared::new(alloc, body)?))
+    match (so_far, found) {
+        (Ok(values), Ok(typed)) => {
+            let mut values = values;
+            let name = name.copy(alloc)?;
+            values.push(Binding {
+                name,
+                value: typed.expr,
+            })?;
+            Ok(values)
+        }
+        (Ok(_), Err(fault)) => Err(fault),
+        (Err(fault), Ok(_)) => Err(fault),
+        (Err(a), Err(b)) => Err(lesser(a, b)),
+    }
 }
 
-/// A name for a value in an expression.
-pub fn bound(
-    alloc: Global,
-    name: &Text,
-    found: Result<(Typed, Typed), TypeFault>,
-) -> Result<Typed, TypeFault>
-    ensures { MadeTyped (λ (p : TheTyped × TheTyped). (of.let_in name.now (expr_of p.0.expr) (expr_of p.1.expr), ty_of p.1.ty)) found result }
+fn within(alloc: Global, values: Bindings, body: Expr) -> Result<Expr, NoMemory>
+    ensures { MatchResult result (λ e. expr_of e ≡ let_all (bounds_of values) (expr_of body)) (λ f. Unit {0}) }
+{
+    let values = SharedItems::new(alloc, values)?;
+    Ok(Expr::Let(values, Shared::new(alloc, body)?))
+}
+
+/// Names for values in an expression.
+pub fn bound(alloc: Global, found: Result<(Bindings, Typed), TypeFault>) -> Result<Typed, TypeFault>
+    ensures { MadeTyped typed_let found result }
 {
     match found {
-        Ok((a, b)) => {
-            let ty = b.ty;
-            let expr = local(alloc, name, a.expr, b.expr)?;
+        Ok((values, body)) => {
+            let ty = body.ty;
+            let expr = within(alloc, values, body.expr)?;
             Ok(Typed { expr, ty })
         }
         Err(fault) => Err(fault),

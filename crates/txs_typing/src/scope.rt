@@ -1,4 +1,4 @@
-ghost use Rattle.std.specs.Prelude.{◌≡◌, ◌++◌, List, IfOk, OnOk, OnErr, [], ◌∷◌, Some, map, option_map, if◌then◌else◌};
+ghost use Rattle.std.specs.Prelude.{◌≡◌, ◌++◌, List, IfOk, OnOk, OnErr, [], ◌∷◌, Some, map, option_map, if◌then◌else◌, take};
 ghost use Rattle.txs_values.specs.View.{ty_of};
 ghost use Rattle.txs_values.specs.TableView.{field_of};
 ghost use Rattle.txs_values.specs.declared.table.FieldDef as rust_field;
@@ -181,11 +181,13 @@ impl Scope {
         Ok(())
     }
 
-    /// The innermost local goes.
-    pub fn unbind(&mut self)
-        ensures locals { (vs : List rust_field.FieldDef) (v : rust_field.FieldDef) → self.old.locals ≡ vs ++ v ∷ [] → self.new.locals ≡ vs }
+    /// The locals within so many go.
+    pub fn leave(&mut self, outer: usize)
+        ensures locals { self.new.locals ≡ take outer self.old.locals }
         ensures same { self.new ≡ record self.old { locals = self.new.locals } }
     {
-        self.locals.pop();
+        while self.locals.len() > outer {
+            self.locals.pop();
+        }
     }
 }

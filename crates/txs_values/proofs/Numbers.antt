@@ -1,14 +1,16 @@
 -- The number in front of a text, and what it spells.
-use Rattle.std.proofs.Common.{◌≡◌, ◌≢◌, ℕ, ℤ, ◌≤◌, ◌↔◌, Bool, true, false, cond, eqb, eqb-true, List, [], ◌∷◌, length, take, drop, Option, Some, None, Result, Ok, Err, refl, sym, ◌∙◌, ap, subst, arith, FitsSigned, MatchOption}
+use Rattle.std.proofs.Common.{◌≡◌, ◌≢◌, ℕ, zero, suc, ℤ, ◌≤◌, ◌↔◌, Bool, true, false, cond, eqb, eqb-true, List, [], ◌∷◌, length, take, drop, Option, Some, None, Result, Ok, Err, refl, sym, ◌∙◌, ap, subst, arith, FitsSigned, MatchOption}
 use Rattle.std.proofs.lemmas.Bool.Decides.{nat_tests}
 use Rattle.std.proofs.lemmas.Fmt.{IsAscii-from_digits}
 use Rattle.std.proofs.lemmas.Str.Ascii.{IsAscii-nil, IsAscii-cons}
 use Rattle.std.specs.Int.{w128}
 use Rattle.std.specs.Str.{IsAscii}
-use Rattle.std.specs.Str.Parse.{AllDigits, IsNumeral}
-use Rattle.txs_values.specs.Ints.{number_run, past_number, has_digit, IsNumber}
-use Rattle.txs_values.specs.Spelling.{is_digit, run_of, past_run, past_blanks, Front, then_front, number_front, alone, last_value, last_number, lone_number, spelled_number, read_text}
-use Rattle.txs_values.specs.Value.{Table, integer, Value, num, fits, value_height_limit, value_size_limit}
+use Rattle.std.specs.Str.Parse.{AllDigits, IsNumeral, signed_digits_value}
+use Rattle.txs_values.specs.declared.reading.Kind.TheVariants.{Wrong, Past}
+use Rattle.txs_values.specs.Ints.{number_run, past_number, has_digit, IsNumber, last_number, spelled_number}
+use Rattle.txs_values.specs.Reading.{ok, stop, after, number_read, value_read, levels_below, ended, small_read, read_text}
+use Rattle.txs_values.specs.Spelling.{is_digit, run_of, past_run, past_blanks}
+use Rattle.txs_values.specs.Value.{Table, integer, Value, num, fits, value_size_limit}
 use Rattle.txs_values.proofs.Digits.{digit-value}
 use Rattle.txs_values.proofs.Ranges.{fits_true, true_fits}
 use Rattle.txs_values.proofs.Runs.{run-length, take-run, drop-run}
@@ -107,7 +109,7 @@ abbrev pub in_range : Option ℤ → Option Value
 in_range None = None
 in_range (Some n) = cond (fits n) (Some (num n)) None
 
-last-number : (n : ℤ) (rest : List ℕ) → fits n ≡ true → last_value rest (num n) ≡ in_range (last_number rest n)
+last-number : (n : ℤ) (rest : List ℕ) → fits n ≡ true → small_read (ended (num n) rest) ≡ in_range (last_number rest n)
 unfolding value_size_limit
 last-number n [] e = sym (ap (λ (t : Bool). cond t (Some (num n)) None) e)
 last-number n (b ∷ bs) e = refl
@@ -116,18 +118,25 @@ last-past : (n : ℤ) (rest : List ℕ) → fits n ≡ false → None ≡ in_ran
 last-past n [] e = sym (ap (λ (t : Bool). cond t (Some (num n)) None) e)
 last-past n (b ∷ bs) e = refl
 
-integer-fits : (n : ℤ) (rest : List ℕ) (t : Bool) → fits n ≡ t → alone (cond t (Some (record { value = num n; rest = rest })) None) ≡ in_range (last_number (past_blanks rest) n)
-integer-fits n rest true e = last-number n (past_blanks rest) e
-integer-fits n rest false e = last-past n (past_blanks rest) e
+-- a number in front, if there is one
+number-alone : (there within : Bool) (n : ℤ) (rest : List ℕ) (k l : ℕ) → fits n ≡ within
+    → small_read (after (cond there (cond within (ok (num n) rest) (stop Past k)) (stop Wrong l)) (λ v r. ended v (past_blanks r)))
+    ≡ in_range (cond there (last_number (past_blanks rest) n) None)
+number-alone false within n rest k l e = refl
+number-alone true true n rest k l e = last-number n (past_blanks rest) e
+number-alone true false n rest k l e = last-past n (past_blanks rest) e
 
-integer-alone : (f : Option (Front ℤ)) → alone (then_front f (λ z rest. cond (fits z) (Some (record { value = num z; rest = rest })) None)) ≡ in_range (lone_number f)
-integer-alone None = refl
-integer-alone (Some f) = integer-fits f.value f.rest (fits f.value) refl
+integer-read : (table : Table) (left : ℕ) (bs : List ℕ) → value_read table left integer bs ≡ number_read (past_blanks bs)
+integer-read table zero bs = refl
+integer-read table (suc left) bs = refl
 
 -- an Int is read where the number that is spelled fits
 pub read_text-integer : (table : Table) (bs : List ℕ) → read_text table integer bs ≡ in_range (spelled_number bs)
-unfolding value_height_limit
-read_text-integer table bs = integer-alone (number_front (past_blanks bs))
+read_text-integer table bs =
+    let run = number_run (past_blanks bs) in
+    let past = past_number (past_blanks bs) in
+    ap (λ o. small_read (after o (λ v r. ended v (past_blanks r)))) (integer-read table levels_below bs)
+    ∙ number-alone (has_digit run) (fits (signed_digits_value 10 run)) (signed_digits_value 10 run) past (length (past_blanks bs)) (length past) refl
 
 read-fits : {E : Type 0} (past : E) (m n : ℤ) (r : Result ℤ E) (t : Bool) → r ≡ cond t (Ok m) (Err past) → (r ≡ Ok n) ↔ (cond t (Some (num m)) None ≡ Some (num n))
 read-fits past m n r true e = ((λ h. cc), (λ h. cc))

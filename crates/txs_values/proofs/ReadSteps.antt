@@ -8,10 +8,6 @@ use Rattle.txs_values.specs.declared.reading.Kind.TheVariants.{Wrong, Broken}
 use Rattle.txs_values.specs.declared.reading.Stop.{Stop}
 use Rattle.txs_values.specs.declared.reading.Stop.TheVariants.{At, NoMemory}
 use Rattle.txs_values.specs.declared.table.ConsDef as rust_cons
-use Rattle.txs_values.specs.declared.value.Value.TheFolds.{fold-roll-Value}
-use Rattle.txs_values.specs.declared.value.Value.TheOpen.{Value-F}
-use Rattle.txs_values.specs.declared.value.Value.TheVariants as variants
-use Rattle.txs_values.specs.View.{value_step, value_of}
 use Rattle.txs_values.specs.declared.table.FieldDef as rust_field
 use Rattle.txs_values.specs.TableView.{field_of, conses_of, first_of}
 use Rattle.txs_values.specs.Value.{Ty, Value, text, cons, no_value, packed, Constructor, Table}
@@ -21,12 +17,6 @@ use Rattle.txs_values.specs.ReadingView.{Stopped}
 
 same_some : {A : Type 0} {x y : A} → Some x ≡ Some y → x ≡ y
 same_some e = cc
-
--- ---- values
-
-pub value_of-text : (t : List ℕ) → value_of (variants.Text t) ≡ text t
-unfolding Rattle.txs_values.specs.declared.value.Value.TheViews.roll-Value denote.Hole.Carrier.roll
-value_of-text t = fold-roll-Value Value value_step (Value-F.Text t)
 
 -- ---- lists
 

@@ -14,8 +14,6 @@ use Rattle.txs_values.specs.declared.table.ConsDef as rust_cons
 use Rattle.txs_values.specs.declared.table.FieldDef as rust_field
 use Rattle.txs_values.specs.declared.table.TypeDef as rust_type
 use Rattle.txs_values.specs.declared.value.Value as rust
-use Rattle.txs_values.specs.declared.value.Value.TheViews as views
-use Rattle.txs_values.proofs.Written.{value_of-cons}
 
 -- ---- rounds
 
@@ -139,11 +137,10 @@ rounds-stop defs found passed next old new i e p n o w h l =
 pub built-end : (table : Table) (found : List (Option rust_choice.Choice)) (n k : ℕ) (ty : Ty) (chosen : Option rust_choice.Choice) (choice : rust_choice.Choice) (kind : ℕ) (x : rust_cons.ConsDef)
     (items : List rust_field.FieldDef) (i : ℕ) (fields : List rust.Value) → 1 ≤ n → ty ≡ named k → chosen ≡ chosen_in found k → chosen ≡ Some choice
     → place_of table choice.id ≡ Some (record { ty = kind; constructor = cons_of x }) → items ≡ x.fields → length items ≤ i
-    → all_defaults (built (n - 1) table found) (map field_of (take i items)) ≡ Some (values_of fields) → built n table found ty ≡ Some (value_of (views.Cons choice.id fields))
+    → all_defaults (built (n - 1) table found) (map field_of (take i items)) ≡ Some (values_of fields) → built n table found ty ≡ Some (cons choice.id (packed (values_of fields)))
 built-end table found n k ty chosen choice kind x items i fields l t c s p f m d =
     let e : take i items ≡ x.fields = take_all i items m ∙ f in
     built-whole table found n k ty choice kind x (values_of fields) l t (sym c ∙ s) p (ap (λ (q : List rust_field.FieldDef). all_defaults (built (n - 1) table found) (map field_of q)) (sym e) ∙ d)
-    ∙ ap Some (sym (value_of-cons choice.id fields))
 
 pub built-ok : {E : Type 0} (defs : List rust_type.TypeDef) (table : Table) (found : List (Option rust_choice.Choice)) (t : Ty) (n : ℕ) (r : Result rust.Value E) → table_of defs ≡ table
     → found ≡ choice_rounds (length defs) (table_of defs) → IfOk r (λ v. built n table found t ≡ Some (value_of v)) → IfOk r (λ v. default_if table t ≡ Some (value_of v))

@@ -2,12 +2,10 @@
 use Rattle.std.proofs.Common.{◌≡◌, ℕ, ◌≤◌, List, [], ◌∷◌, ◌++◌, length, get_or, drop, refl, sym, ◌∙◌, ap, arith, append_assoc}
 use Rattle.std.proofs.lemmas.List.{append-nil, drop_all}
 use Rattle.txs_values.specs.declared.value.Value as rust
-use Rattle.txs_values.specs.declared.value.Value.TheFolds.{fold-roll-Value}
-use Rattle.txs_values.specs.declared.value.Value.TheOpen.{Value-F}
-use Rattle.txs_values.specs.declared.value.Value.TheViews as views
+use Rattle.txs_values.specs.declared.value.Value.TheVariants as variant
 use Rattle.txs_values.specs.Text.{name_of, text_of, texts_of}
-use Rattle.txs_values.specs.Value.{Table, Value, place_of, cons, packed}
-use Rattle.txs_values.specs.View.{value_step, value_of, values_of}
+use Rattle.txs_values.specs.Value.{Table, Values, place_of, cons, packed}
+use Rattle.txs_values.specs.View.{value_of, values_of}
 
 pieces : (name first others o0 o1 o2 o3 o4 o5 : List ℕ) → o1 ≡ o0 ++ name → o2 ≡ o1 ++ 40 ∷ [] → o3 ≡ o2 ++ first → o4 ≡ o3 ++ others → o5 ≡ o4 ++ 41 ∷ []
     → o5 ≡ o0 ++ (name ++ (40 ∷ (first ++ (others ++ 41 ∷ []))))
@@ -31,11 +29,7 @@ written-others table others i out start l h =
     let e : drop i others ≡ [] = drop_all i others l in
     sym (append-nil out) ∙ (ap (λ (q : List rust.Value). out ++ texts_of table (packed (values_of q))) (sym e) ∙ h)
 
-pub value_of-cons : (id : ℕ) (fields : List rust.Value) → value_of (views.Cons id fields) ≡ cons id (packed (values_of fields))
-unfolding views.roll-Value denote.Hole.Carrier.roll
-value_of-cons id fields = fold-roll-Value Value value_step (Value-F.Cons id fields)
-
-pub written-value : (table : Table) (id : ℕ) (fields listed : List rust.Value) (value : rust.Value) (out new : List ℕ) → value ≡ views.Cons id fields → listed ≡ fields
+pub written-value : (table : Table) (id : ℕ) (fields : Values) (listed : List rust.Value) (value : rust.Value) (out new : List ℕ) → value ≡ variant.Cons id fields → packed (values_of listed) ≡ fields
     → new ≡ out ++ text_of table (cons id (packed (values_of listed))) → new ≡ out ++ text_of table (value_of value)
 written-value table id fields listed value out new e l h =
-    h ∙ ap (λ (q : Value). out ++ text_of table q) (ap (λ (q : List rust.Value). cons id (packed (values_of q))) l ∙ (sym (value_of-cons id fields) ∙ ap value_of (sym e)))
+    h ∙ ap (λ (q : Values). out ++ text_of table (cons id q)) l ∙ ap (λ (v : rust.Value). out ++ text_of table (value_of v)) (sym e)

@@ -1,8 +1,8 @@
 pub mod Bytes
 pub mod Fronts
 pub mod Places
-pub mod Sound
-pub mod Complete
+pub mod Joined
+pub mod TextsIn
 pub mod Written
 pub mod Found
 pub mod Tokens

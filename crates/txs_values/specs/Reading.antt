@@ -1,10 +1,10 @@
--- How a value is read, from the left, with one byte in sight.
-use Rattle.std.specs.Prelude.{ℕ, zero, suc, ◌+◌, Bool, true, false, cond, eqb, min, List, [], ◌∷◌, ◌++◌, length, Option, Some, None, codes}
+-- How a value is read, from the left, with one byte in sight. What is read is what the text spells by `Spelled`, which says so without an order of reading.
+use Rattle.std.specs.Prelude.{ℕ, zero, suc, ◌+◌, Bool, true, false, cond, eqb, nat_le, min, List, [], ◌∷◌, ◌++◌, length, Option, Some, None, codes}
 use Rattle.std.specs.Str.{is_utf8}
 use Rattle.std.specs.Str.Parse.{signed_digits_value}
 use Rattle.txs_values.specs.declared.reading.Kind.{Kind}
 use Rattle.txs_values.specs.declared.reading.Kind.TheVariants.{Wrong, Past, Deep, Broken}
-use Rattle.txs_values.specs.Value.{Ty, integer, truth, string, named, Value, num, bool, text, cons, no_value, packed, Field, Constructor, Table, fits}
+use Rattle.txs_values.specs.Value.{Ty, integer, truth, string, named, Value, num, bool, text, cons, no_value, packed, Field, Constructor, Table, fits, size, value_size_limit}
 use Rattle.txs_values.specs.Spelling.{past_blanks, is_name_byte, is_raw, escape_of, Made}
 use Rattle.txs_values.specs.Ints.{number_run, past_number, has_digit}
 
@@ -152,3 +152,12 @@ ended v (b ∷ bs) = stop Wrong (length (b ∷ bs))
 -- a value that only blanks follow
 abbrev pub lone_read : Table → Ty → List ℕ → Outcome Value
 lone_read table t bs = after (value_read table levels_below t bs) (λ v r. ended v (past_blanks r))
+
+-- a value that is not too large
+abbrev pub small_read : Outcome Value → Option Value
+small_read (ok v r) = cond (nat_le (size v) value_size_limit) (Some v) None
+small_read (stop k n) = None
+
+-- the value of this type that the text spells, where it is allowed (`IsSpelling` and `IsAllowed` of `Spelled`)
+abbrev pub read_text : Table → Ty → List ℕ → Option Value
+read_text table t bs = small_read (lone_read table t bs)

@@ -1,5 +1,6 @@
 -- The spellings of a value, one case a form: the canonical text with blanks around each token, leading zeros allowed, and `-0` for 0.
 use Rattle.std.specs.Prelude.{◌≡◌, ◌≤◌, ℕ, true, false, eqb, List, [], ◌∷◌, ◌++◌, Some, codes}
+use Rattle.std.specs.Str.{is_utf8}
 use Rattle.std.specs.Str.Parse.{signed_digits_value}
 use Rattle.txs_values.specs.Value.{Ty, Value, text, Field, Table, Place, place_of, field_types, size, height, value_size_limit, value_height_limit, HasType, Values, integer, truth, string, named, num, bool, cons, no_value, and_value}
 use Rattle.txs_values.specs.Spelling.{is_blank, is_digit, is_letter, is_name_byte, escape_of, is_raw}
@@ -69,8 +70,21 @@ pub record IsNamed (table : Table) : Type 0 where
   pub names : (c : ℕ) (p : Place) → place_of table c ≡ Some p → IsName p.constructor.name
   pub distinct : (c d : ℕ) (p q : Place) → place_of table c ≡ Some p → place_of table d ≡ Some q → p.constructor.name ≡ q.constructor.name → c ≡ d
 
--- of its type, its Ints in range, and neither too large nor too high
+-- each text in a value is UTF-8
+abbrev mutual
+  pub HasTexts : Value → Type 0
+  HasTexts (num x) = Unit {0}
+  HasTexts (bool b) = Unit {0}
+  HasTexts (text bs) = is_utf8 bs ≡ true
+  HasTexts (cons c vs) = HaveTexts vs
+
+  pub HaveTexts : Values → Type 0
+  HaveTexts no_value = Unit {0}
+  HaveTexts (and_value v vs) = HasTexts v × HaveTexts vs
+
+-- of its type, its Ints in range, its texts UTF-8, and neither too large nor too high
 pub record IsAllowed (table : Table) (t : Ty) (v : Value) : Type 0 where
   pub typed : HasType table v t
+  pub texts : HasTexts v
   pub small : size v ≤ value_size_limit
   pub low : height v ≤ value_height_limit

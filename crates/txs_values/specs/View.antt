@@ -3,19 +3,15 @@ use Rattle.std.specs.Prelude.{List, map}
 use Rattle.txs_values.specs.declared.ty.Ty as rust_ty
 use Rattle.txs_values.specs.declared.ty.Ty.TheVariants as ty
 use Rattle.txs_values.specs.declared.value.Value as rust
-use Rattle.txs_values.specs.declared.value.Value.TheOpen.{Value-F}
-use Rattle.txs_values.specs.declared.value.Value.TheFolds.{fold-Value}
-use Rattle.txs_values.specs.Value.{Ty, integer, truth, string, named, Value, num, bool, text, cons, packed}
+use Rattle.txs_values.specs.declared.value.Value.TheVariants as value
+use Rattle.txs_values.specs.Value.{Ty, integer, truth, string, named, Value, num, bool, text, cons}
 
--- one level, with each field already seen
-abbrev pub value_step : Value-F Value → Value
-value_step (Value-F.Int x) = num x
-value_step (Value-F.Bool b) = bool b
-value_step (Value-F.Text t) = text t
-value_step (Value-F.Cons id vs) = cons id (packed vs)
-
+-- the fields of a constructor are seen as values already
 abbrev pub value_of : rust.Value → Value
-value_of = fold-Value Value value_step
+value_of (value.Int x) = num x
+value_of (value.Bool b) = bool b
+value_of (value.Text t) = text t
+value_of (value.Cons id vs) = cons id vs
 
 abbrev pub values_of : List rust.Value → List Value
 values_of vs = map value_of vs

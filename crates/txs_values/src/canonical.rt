@@ -80,7 +80,7 @@ fn write_value(
         Value::Text(text) => write_quoted(out, text),
         Value::Cons { id, fields } => {
             write_name(out, table, *id)?;
-            if let [first, others @ ..] = fields.as_slice() {
+            if let [first, others @ ..] = fields.get().as_slice() {
                 out.push_str("(")?;
                 write_value(alloc, out, table, first)?;
                 for other in others {

@@ -1,4 +1,4 @@
-ghost use Rattle.std.specs.Prelude.{◌≡◌, ◌+◌, ◌≤◌, ◌<◌, ◌⊎◌, ◌↔◌, min, MatchOption, IsTrue};
+ghost use Rattle.std.specs.Prelude.{◌≡◌, ◌≤◌, ◌↔◌, min, IsTrue};
 ghost use Rattle.txs_values.specs.Measure.{u64_max};
 ghost use Rattle.txs_values.specs.Value.{size, height};
 ghost use Rattle.txs_values.specs.View.{value_of};
@@ -19,43 +19,8 @@ pub fn size_of(value: &Value) -> u64
         Value::Int(_) => 1,
         Value::Bool(_) => 1,
         Value::Text(text) => (text.as_bytes().len() as u64).saturating_add(1),
-        Value::Cons { fields, .. } => {
-            let mut total: u64 = 1;
-            for field in fields.as_slice() {
-                total = total.saturating_add(size_of(field));
-            }
-            total
-        }
+        Value::Cons { fields, .. } => fields.get().size().saturating_add(1),
     }
-}
-
-/// What is left of this size behind the value, if it is no larger, and no higher than this.
-fn left_behind(value: &Value, most: u64, highest: u64) -> Option<u64>
-    ensures { MatchOption result ((most < size (value_of value.now)) ⊎ (highest < height (value_of value.now)))
-        (λ left. (left + size (value_of value.now) ≡ most) × (height (value_of value.now) ≤ highest)) }
-{
-    if most == 0 || highest == 0 {
-        return None;
-    }
-    match value {
-        Value::Int(_) => Some(most - 1),
-        Value::Bool(_) => Some(most - 1),
-        Value::Text(text) => (most - 1).checked_sub(text.as_bytes().len() as u64),
-        Value::Cons { fields, .. } => {
-            let mut left = most - 1;
-            for field in fields.as_slice() {
-                left = left_behind(field, left, highest - 1)?;
-            }
-            Some(left)
-        }
-    }
-}
-
-/// Whether a value is no larger and no higher than this. Of one that is larger, not all is looked at.
-pub fn is_within(value: &Value, most: u64, highest: u64) -> bool
-    ensures { IsTrue result ↔ ((size (value_of value.now) ≤ most) × (height (value_of value.now) ≤ highest)) }
-{
-    left_behind(value, most, highest).is_some()
 }
 
 /// How many values stand within one another; 2^64 - 1 where there are more.
@@ -66,12 +31,20 @@ pub fn height_of(value: &Value) -> u64
         Value::Int(_) => 1,
         Value::Bool(_) => 1,
         Value::Text(_) => 1,
+        Value::Cons { fields, .. } => fields.get().height().saturating_add(1),
+    }
+}
+
+/// Whether a value is no larger and no higher than this.
+pub fn is_within(value: &Value, most: u64, highest: u64) -> bool
+    ensures { IsTrue result ↔ ((size (value_of value.now) ≤ most) × (height (value_of value.now) ≤ highest)) }
+{
+    match value {
+        Value::Int(_) => 0 < most && 0 < highest,
+        Value::Bool(_) => 0 < most && 0 < highest,
+        Value::Text(text) => (text.as_bytes().len() as u64) < most && 0 < highest,
         Value::Cons { fields, .. } => {
-            let mut highest: u64 = 0;
-            for field in fields.as_slice() {
-                highest = highest.max(height_of(field));
-            }
-            highest.saturating_add(1)
+            fields.get().size() < most && fields.get().height() < highest
         }
     }
 }

@@ -37,9 +37,9 @@ pub fn read_value(
     ty: Ty,
     bytes: &[u8],
 ) -> Result<Value, ReadValueFault>
-    ensures exact { IsNamed table.now → MatchResult result
+    ensures exact { MatchResult result
         (λ v. IsUtf8 bytes.now × IsSpelling table.now (ty_of ty) (value_of v) bytes.now × IsAllowed table.now (ty_of ty) (value_of v))
-        (λ f. (f ≡ NoMemory) ⊎ ((v : value.Value) → IsUtf8 bytes.now → IsSpelling table.now (ty_of ty) v bytes.now → IsAllowed table.now (ty_of ty) v → ⊥)) }
+        (λ f. (f ≡ NoMemory) ⊎ (IsNamed table.now → (v : value.Value) → IsUtf8 bytes.now → IsSpelling table.now (ty_of ty) v bytes.now → IsAllowed table.now (ty_of ty) v → ⊥)) }
     ensures not_text { (result ≡ Err NotText) ↔ (IsUtf8 bytes.now → ⊥) }
     ensures refused { IsReadable table.now (ty_of ty) → result ≢ Err NoMemory → (f : Fault) → f ≢ NoMemory → (result ≡ Err f) ↔ Refuses table.now (ty_of ty) bytes.now f }
 {
@@ -56,9 +56,9 @@ fn read_text(
     bytes: &[u8],
 ) -> Result<Value, ReadValueFault>
     requires { IsUtf8 bytes.now }
-    ensures exact { IsNamed table.now → MatchResult result
+    ensures exact { MatchResult result
         (λ v. IsUtf8 bytes.now × IsSpelling table.now (ty_of ty) (value_of v) bytes.now × IsAllowed table.now (ty_of ty) (value_of v))
-        (λ f. (f ≡ NoMemory) ⊎ ((v : value.Value) → IsUtf8 bytes.now → IsSpelling table.now (ty_of ty) v bytes.now → IsAllowed table.now (ty_of ty) v → ⊥)) }
+        (λ f. (f ≡ NoMemory) ⊎ (IsNamed table.now → (v : value.Value) → IsUtf8 bytes.now → IsSpelling table.now (ty_of ty) v bytes.now → IsAllowed table.now (ty_of ty) v → ⊥)) }
     ensures text { result ≢ Err NotText }
     ensures refused { IsReadable table.now (ty_of ty) → result ≢ Err NoMemory → (f : Fault) → f ≢ NoMemory → (result ≡ Err f) ↔ Refuses table.now (ty_of ty) bytes.now f }
 {

@@ -60,7 +60,7 @@ body =
     (prefix (record { channel = 1; positions = give (hd (slot 0)) ∷ [] } ∷ []) (one negation (is_nil (slot 0)) ∷ []) (calls (tl (slot 0))))
 
 abbrev queue : Model
-queue = record { defs = record { table = table; functions = add ∷ []; constants = [] }; bodies = body ∷ []; automata = [] }
+queue = record { defs = record { table = table; functions = record { takes = integer ∷ named 0 ∷ []; body = add } ∷ []; constants = [] }; bodies = body ∷ []; automata = [] }
 
 abbrev scope : Scope
 scope = (integer ∷ []) ∷ (integer ∷ []) ∷ []
@@ -130,13 +130,13 @@ of_body exit_types = (
 )
 
 AddHas : Signature → Type 0
-AddHas s = (e : Expr) × (slice_get queue.defs.functions 0 ≡ Some e) × Of table signatures s.takes [] e s.gives
+AddHas s = (e : Expr) × (slice_get queue.defs.functions 0 ≡ Some (record { takes = s.takes; body = e })) × Of table signatures s.takes [] e s.gives
 
 BodyHas : ProcessSignature → Type 0
 BodyHas s = (b : Term) × (slice_get queue.bodies 0 ≡ Some b) × ((exit_types : List Ty) → ExitsWith s.exit_types exit_types → OfTerm table signatures s.formals s.takes exit_types b)
 
 of_functions : (f : ℕ) (s : Signature) → slice_get signatures.functions f ≡ Some s
-    → (e : Expr) × (slice_get queue.defs.functions f ≡ Some e) × Of table signatures s.takes [] e s.gives
+    → (e : Expr) × (slice_get queue.defs.functions f ≡ Some (record { takes = s.takes; body = e })) × Of table signatures s.takes [] e s.gives
 unfolding AddHas
 of_functions zero s e = subst AddHas (same_some e) (add, refl, add_of)
 of_functions (suc f) s e = absurd (none_some e)

@@ -4,7 +4,7 @@ use Rattle.std.specs.Prelude.{slice_get}
 use Rattle.std.proofs.lemmas.Bool.{ltb-true, lt-ltb}
 use Rattle.txs_values.specs.Value.{Value, num, bool, text, cons, packed, same_value}
 use Rattle.txs_terms.specs.Expr.{Expr, val, slot, local, constant, one, two, equal, both, either, choose, apply, build, let_in, with_local, Exprs, none, more, put, filled}
-use Rattle.txs_terms.specs.Eval.{Defs, Run, got, bad, long, Runs, gots, bads, Eval, then_run, then_runs, cons_run, with_first, each, Outcome, fine, broken, after, unary, binary, sized, if_true, body_run, node, run, height_limit, node_limit, Gives, bool_true}
+use Rattle.txs_terms.specs.Eval.{Defs, Run, got, bad, long, Runs, gots, bads, Eval, then_run, then_runs, cons_run, with_first, each, Outcome, fine, broken, after, unary, binary, sized, if_true, body_run, checked, takes_one, takes_two, are_comparable, have_types, takes_fields, node, run, height_limit, node_limit, Gives, bool_true}
 
 -- what the one gives, the other gives after no more nodes
 abbrev pub Better : Run → Run → Type 0
@@ -72,7 +72,21 @@ if_better (cons c vs) a a' b b' p q = bad_any _ _
 if_better (bool true) a a' b b' p q = p
 if_better (bool false) a a' b b' p q = q
 
-body_better : (o : Option Expr) (go go' : Expr → Run) → ((e : Expr) → Better (go e) (go' e)) → Better (body_run o go) (body_run o go')
+checked_better : (b : Bool) (r r' : Run) → Better r r' → Better (checked b r) (checked b r')
+checked_better true r r' h = h
+checked_better false r r' h = bad_any _ _
+
+-- what gives a value was as it has to be
+pub checked_got : (b : Bool) (r : Run) (v : Value) (n : ℕ) → checked b r ≡ got v n → (b ≡ true) × (r ≡ got v n)
+checked_got true r v n e = (refl, e)
+checked_got false r v n e = cc
+
+-- a comparison that gives True
+pub compared_true : (b c : Bool) (m n : ℕ) → checked b (got (bool c) m) ≡ got (bool true) n → c ≡ true
+compared_true true c m n e = cc
+compared_true false c m n e = cc
+
+body_better : {A : Type 0} (o : Option A) (go go' : A → Run) → ((e : A) → Better (go e) (go' e)) → Better (body_run o go) (body_run o go')
 body_better None go go' k = bad_any _ _
 body_better (Some e) go go' k = k e
 
@@ -82,21 +96,23 @@ node_better defs ev ev' b (slot i) n n' h = bad_any _ _
 node_better defs ev ev' b (local i) n n' h = bad_any _ _
 node_better defs ev ev' b (constant c) n n' h = body_better (slice_get defs.constants c) _ _ (λ e. b e n n' h)
 node_better defs ev ev' b (one o x) n n' h =
-    then_better (ev x n) (ev' x n') _ _ (b x n n' h) (λ w k k' g. after_better (unary defs.table o w) k k' g)
+    then_better (ev x n) (ev' x n') _ _ (b x n n' h) (λ w k k' g. checked_better (takes_one defs.table o w) _ _ (after_better (unary defs.table o w) k k' g))
 node_better defs ev ev' b (two o x y) n n' h =
     then_better (ev x n) (ev' x n') _ _ (b x n n' h)
-    (λ w k k' g. then_better (ev y k) (ev' y k') _ _ (b y k k' g) (λ u i i' j. after_better (binary o w u) i i' j))
+    (λ w k k' g. then_better (ev y k) (ev' y k') _ _ (b y k k' g)
+    (λ u i i' j. checked_better (takes_two defs.table o w u) _ _ (after_better (binary o w u) i i' j)))
 node_better defs ev ev' b (either x y) n n' h =
     then_better (ev x n) (ev' x n') _ _ (b x n n' h)
     (λ w k k' g. if_better w _ _ (ev y k) (ev' y k') (got_got (bool true) k k' g) (b y k k' g))
 node_better defs ev ev' b (build c es) n n' h =
     then_all_better (each ev es n) (each ev' es n') _ _ (each_better ev ev' b es n n' h)
-    (λ vs k k' g. after_better (sized (cons c (packed vs))) k k' g)
+    (λ vs k k' g. checked_better (takes_fields defs.table c vs) _ _ (after_better (sized (cons c (packed vs))) k k' g))
 node_better defs ev ev' b (let_in v x y) n n' h =
     then_better (ev x n) (ev' x n') _ _ (b x n n' h) (λ w k k' g. b (with_local w y) k k' g)
 node_better defs ev ev' b (equal x y) n n' h =
     then_better (ev x n) (ev' x n') _ _ (b x n n' h)
-    (λ w k k' g. then_better (ev y k) (ev' y k') _ _ (b y k k' g) (λ u i i' j. got_got (bool (same_value w u)) i i' j))
+    (λ w k k' g. then_better (ev y k) (ev' y k') _ _ (b y k k' g)
+    (λ u i i' j. checked_better (are_comparable defs.table w u) _ _ (got_got (bool (same_value w u)) i i' j)))
 node_better defs ev ev' b (both x y) n n' h =
     then_better (ev x n) (ev' x n') _ _ (b x n n' h)
     (λ w k k' g. if_better w (ev y k) (ev' y k') _ _ (b y k k' g) (got_got (bool false) k k' g))
@@ -105,7 +121,8 @@ node_better defs ev ev' b (choose c x y) n n' h =
     (λ w k k' g. if_better w (ev x k) (ev' x k') (ev y k) (ev' y k') (b x k k' g) (b y k k' g))
 node_better defs ev ev' b (apply f es) n n' h =
     then_all_better (each ev es n) (each ev' es n') _ _ (each_better ev ev' b es n n' h)
-    (λ vs k k' g. body_better (slice_get defs.functions f) _ _ (λ e. b (put (filled vs) e) k k' g))
+    (λ vs k k' g. body_better (slice_get defs.functions f) _ _
+    (λ f. checked_better (have_types defs.table vs f.takes) _ _ (b (put (filled vs) f.body) k k' g)))
 
 entered : (t t' : Bool) (r r' : Run) → (t ≡ true → t' ≡ true) → Better r r' → Better (cond t r (bad long)) (cond t' r' (bad long))
 entered false t' r r' i b = bad_any _ _
@@ -146,7 +163,7 @@ sides_give defs a b p = go height_limit refl p.1
             let pb = parts_of (run defs k b pa.1) _ pa.3 in
             let ga = run_better defs k height_limit l a 1 0 (omega arith) pa.0 pa.1 pa.2 in
             let gb = run_better defs k height_limit l b pa.1 0 (omega arith) pb.0 pb.1 pb.2 in
-            (pa.0, pb.0, (ga.0, ga.1), (gb.0, gb.1), (let s = pb.3 in cc))
+            (pa.0, pb.0, (ga.0, ga.1), (gb.0, gb.1), compared_true (are_comparable defs.table pa.0 pb.0) (same_value pa.0 pb.0) pb.1 p.0 pb.3)
           where
             parts_of : (r : Run) (go : Value → ℕ → Run) → then_run r go ≡ got bool_true p.0
                 → (w : Value) × (m : ℕ) × (r ≡ got w m) × (go w m ≡ got bool_true p.0)

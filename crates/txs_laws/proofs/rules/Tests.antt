@@ -6,10 +6,11 @@ use mathlib.Core.Bool.{beq}
 use Rattle.std.proofs.lemmas.Bool.{or_parts, and_parts, both_ways, and_from, eqb-true, eq-eqb, lt-ltb}
 use Rattle.std.proofs.lemmas.Bool.Decides.{Decides-int_eq}
 use Rattle.std.specs.Cmp.Lexicographic.{bytes_decides}
-use Rattle.txs_values.specs.Value.{Value, num, bool, text, cons, Values, no_value, and_value, same_value, same_each}
+use Rattle.txs_values.specs.Value.{Value, num, bool, text, cons, Values, no_value, and_value, Table, same_value, same_each}
 use Rattle.txs_terms.specs.Expr.{Expr, val, slot, local, constant, one, two, equal, both, either, choose, apply, build, let_in, Exprs, none, more, Puts, put, put_each, put_all, filled, has_slot, any_has_slot}
-use Rattle.txs_terms.specs.Eval.{Defs, Run, got, bad, long, eval, run, node, height_limit, node_limit, Gives, Hold, then_run}
+use Rattle.txs_terms.specs.Eval.{Defs, Run, got, bad, long, eval, run, node, height_limit, node_limit, Gives, Hold, then_run, are_comparable}
 use Rattle.txs_terms.specs.Rules.{AllGive, AllBind}
+use Rattle.txs_laws.proofs.rules.Limits.{compared_true}
 use Rattle.txs_terms.specs.Menu.{Verdict, holds, judge, and_then, with_slots, without_slots, where_some, with_value, all_values, with_front, then_bound, bound_values, Walk, walked, Item}
 
 -- ---- one value
@@ -118,7 +119,7 @@ equal_run defs (suc h) v w m n e =
     let b = then_run_from (run defs h (val w) a.1) _ (bool true) n a.3 in
     let va = val_run defs h v a.0 (suc m) a.1 a.2 in
     let wb = val_run defs h w b.0 a.1 b.1 b.2 in
-    let s : same_value a.0 b.0 ≡ true = (let q = b.3 in cc) in
+    let s : same_value a.0 b.0 ≡ true = compared_true (are_comparable defs.table a.0 b.0) (same_value a.0 b.0) b.1 n b.3 in
     va ∙ (same_value-true a.0 b.0 s ∙ sym wb)
 
 pub equal_same : (defs : Defs) (v w : Value) → Gives defs (equal (val v) (val w)) (bool true) → v ≡ w
@@ -132,9 +133,15 @@ nodes_below : (n : ℕ) → n < 10 → ltb n node_limit ≡ true
 unfolding node_limit
 nodes_below n h = lt-ltb n 1000000 (omega arith)
 
+comparable_refl : (table : Table) (v : Value) → are_comparable table v v ≡ true
+comparable_refl table (num x) = refl
+comparable_refl table (bool b) = refl
+comparable_refl table (text bs) = refl
+comparable_refl table (cons c vs) = rw (eq-eqb c c refl) refl
+
 equal_at : (defs : Defs) (h : ℕ) (v : Value) → run defs (suc (suc h)) (equal (val v) (val v)) 0 ≡ got (bool true) 3
 equal_at defs h v =
-    rw (nodes_below 0 (lit< tt), nodes_below 1 (lit< tt), nodes_below 2 (lit< tt), same_value_refl v) refl
+    rw (nodes_below 0 (lit< tt), nodes_below 1 (lit< tt), nodes_below 2 (lit< tt), comparable_refl defs.table v, same_value_refl v) refl
 
 pub equal_holds : (defs : Defs) (v : Value) → Gives defs (equal (val v) (val v)) (bool true)
 equal_holds defs v = (3, rw height_is (equal_at defs 998 v))

@@ -5,7 +5,7 @@ use Rattle.std.proofs.lemmas.Int.{ints}
 use Rattle.std.proofs.lemmas.Bool.{and_parts, eqb-true}
 use Rattle.txs_terms.specs.Action.{from}
 use Rattle.txs_values.specs.Value.{fields_in, field_types, Ty, integer, truth, string, named, Value, num, bool, text, cons, Values, no_value, and_value, Table, Field, place_of, same_value, has_type, has_fields, HaveTypes}
-use Rattle.txs_terms.specs.Eval.{Defs, Run, got, run, eval, then_run, after, binary, fine, broken, Outcome, node_limit, height_limit, Gives, Hold, bool_true}
+use Rattle.txs_terms.specs.Eval.{Defs, Run, got, run, eval, then_run, checked, are_comparable, takes_two, after, binary, fine, broken, Outcome, node_limit, height_limit, Gives, Hold, bool_true}
 use Rattle.txs_terms.specs.Expr.{Binary, plus, minus, times, divide, remainder, concat, differ, less_than, at_most, more_than, at_least, char_at, Expr, val, slot, local, constant, one, two, equal, both, either, choose, apply, build, let_in, put, put_all, filled, has_slot}
 use Rattle.txs_terms.specs.Rules.{In}
 use Rattle.txs_guard.specs.Atom.{fixed_value, value_in}
@@ -15,6 +15,7 @@ use Rattle.txs_guard.specs.Mentioned.{flat}
 use Rattle.txs_guard.specs.Point.{IsPoint, IsTrueAt}
 use Rattle.txs_guard.specs.Query.{Query}
 use Rattle.txs_laws.proofs.rules.Tests.{put_closed, same_value-true, cond_got, sym_same, then_run_from}
+use Rattle.txs_laws.proofs.rules.Limits.{checked_got, compared_true}
 use Rattle.txs_laws.proofs.rules.Lists.{In-append, In_mapped}
 use Rattle.txs_laws.proofs.solver.Members.{In_with_each, In_up_to, made, place_below}
 use Rattle.txs_laws.proofs.solver.Runs.{closed_gives, at_slot, place_gives}
@@ -87,12 +88,12 @@ sides_from defs p a b op h m n e =
     record { left = s.0; right = t.0; height = h; from = m; mid = s.1; end = t.1; left_run = s.2; right_run = t.2; last = n; made_true = t.3 }
 
 equal_sides : (defs : Defs) (p : List Value) (a b : Expr) (h m n : ℕ) → run defs h (put (filled p) (equal a b)) m ≡ got (bool true) n
-    → Sides defs p a b (λ x y k. got (bool (same_value x y)) k)
+    → Sides defs p a b (λ x y k. checked (are_comparable defs.table x y) (got (bool (same_value x y)) k))
 equal_sides defs p a b zero m n e = cc
 equal_sides defs p a b (suc h) m n e = sides_from defs p a b _ h (suc m) n (cond_got (ltb m node_limit) _ (bool true) n e)
 
 two_sides : (defs : Defs) (p : List Value) (o : Binary) (a b : Expr) (h m n : ℕ) → run defs h (put (filled p) (two o a b)) m ≡ got (bool true) n
-    → Sides defs p a b (λ x y. after (binary o x y))
+    → Sides defs p a b (λ x y k. checked (takes_two defs.table o x y) (after (binary o x y) k))
 two_sides defs p o a b zero m n e = cc
 two_sides defs p o a b (suc h) m n e = sides_from defs p a b _ h (suc m) n (cond_got (ltb m node_limit) _ (bool true) n e)
 
@@ -243,7 +244,7 @@ side_run defs p a c l m n w e r = ap (λ (z : Expr). run defs l (put (filled p) 
 equal_keeps : (q : Query) (p : List Value) (a c : Expr) (b : Bound) → Gives q.defs (put (filled p) (equal a c)) bool_true → In b (bounds_of q (equal a c)) → Keeps p b
 equal_keeps q p a c b g h =
     let s = equal_sides q.defs p a c height_limit 0 g.0 g.1 in
-    let t : same_value s.left s.right ≡ true = (let x = s.made_true in cc) in
+    let t : same_value s.left s.right ≡ true = compared_true (are_comparable q.defs.table s.left s.right) (same_value s.left s.right) s.end s.last s.made_true in
     elim (In-append b (left_bounds q a c (λ i x. low i x ++ high i x)) (left_bounds q c a (λ i x. low i x ++ high i x)) h) [
       | inl x ↦ (let l = left_bound q a c (λ i x. low i x ++ high i x) b x in
           let y = closed_value q p c (num l.number) l.fixed s.height s.mid s.end s.right s.right_run in
@@ -258,7 +259,7 @@ equal_keeps q p a c b g h =
 two_keeps : (q : Query) (p : List Value) (o : Binary) (a c : Expr) (b : Bound) → Gives q.defs (put (filled p) (two o a c)) bool_true → In b (bounds_of q (two o a c)) → Keeps p b
 two_keeps q p o a c b g h =
     let s = two_sides q.defs p o a c height_limit 0 g.0 g.1 in
-    let t = after_fine (binary o s.left s.right) (bool true) s.end s.last s.made_true in
+    let t = after_fine (binary o s.left s.right) (bool true) s.end s.last (checked_got (takes_two q.defs.table o s.left s.right) _ _ _ s.made_true).1 in
     elim (In-append b (left_bounds q a c (operator_bounds o)) (left_bounds q c a (operator_bounds (turned o))) h) [
       | inl x ↦ (let l = left_bound q a c (operator_bounds o) b x in
           let y = closed_value q p c (num l.number) l.fixed s.height s.mid s.end s.right s.right_run in

@@ -4,7 +4,7 @@ use Rattle.std.specs.Prelude.{Option, Some, None, slice_get}
 use Rattle.std.specs.Str.{bytes_eq}
 use Rattle.std.proofs.lemmas.Bool.{and_parts, or_cases, eqb-true}
 use Rattle.txs_values.specs.Value.{Ty, integer, truth, string, named, Value, num, bool, text, cons, same_value, has_type}
-use Rattle.txs_terms.specs.Eval.{Run, got, bad, run, eval, then_run, after, unary, binary, Outcome, fine, broken, wrong, integer_binary, node_limit}
+use Rattle.txs_terms.specs.Eval.{Run, got, bad, run, eval, then_run, checked, are_comparable, takes_one, takes_two, after, unary, binary, Outcome, fine, broken, wrong, integer_binary, node_limit}
 use Rattle.txs_terms.specs.Expr.{negate, negation, to_text, from_text, len, is_made_by, select, Binary, plus, minus, times, divide, remainder, concat, differ, less_than, at_most, more_than, at_least, char_at, Expr, val, slot, local, constant, one, two, equal, both, either, choose, apply, build, let_in, put, filled, has_slot}
 use Rattle.txs_terms.specs.Rules.{In}
 use Rattle.txs_guard.specs.Atom.{has_value, fixed_value, value_in, is_equality, is_integer_side, is_comparison, is_order_operator, is_order_atom, all_order, atoms_of_all}
@@ -19,6 +19,7 @@ use Rattle.std.specs.Cmp.Lexicographic.{bytes_decides}
 use Rattle.txs_laws.proofs.solver.Press.{SameOrder, least_is, pressed_order, pressed_fixed}
 use Rattle.txs_laws.proofs.solver.Texts.{Text}
 use Rattle.txs_laws.proofs.solver.Squash.{squash, along, In_along, follow, Known, Within, squashed_same}
+use Rattle.txs_laws.proofs.solver.Heads.{KeepsHeads, own_head, squashed_head, comparable_heads}
 use Rattle.txs_laws.proofs.solver.Members.{In_flat}
 use Rattle.txs_laws.proofs.solver.Runs.{place_from, map_run, place_alike, place_gives, closed_gives}
 use Rattle.txs_laws.proofs.solver.Mentions.{side_mentioned, constant_mentioned, In_once, place_typed}
@@ -278,18 +279,23 @@ module _ (q : Query) (p : List Value) (point : IsPoint q p) (e : Expr) (among : 
       → then_run (run q.defs left (put (filled (cell_of q p)) a) n) (λ x m. then_run (run q.defs left (put (filled (cell_of q p)) b) m) (λ y. op x y))
       ≡ then_run (run q.defs left (put (filled p) a) n) (λ x m. then_run (run q.defs left (put (filled p) b) m) (λ y. op x y))
 
-  -- an operator that sees of its arguments whether they are the same
+  -- an operator that sees of its arguments whether they are the same, and whether they are of one type
   abbrev SeesSame : (Value → Value → ℕ → Run) → Type 0
-  SeesSame op = (x y x' y' : Value) (n : ℕ) → same_value x' y' ≡ same_value x y → op x' y' n ≡ op x y n
+  SeesSame op = (x y x' y' : Value) (n : ℕ) → are_comparable q.defs.table x' y' ≡ are_comparable q.defs.table x y → same_value x' y' ≡ same_value x y
+      → op x' y' n ≡ op x y n
 
-  both_run : (op : Value → Value → ℕ → Run) (a b : Expr) (f g : Value → Value) → SeesSame op
+  keeps_heads : (s : Spot) → KeepsHeads (squashes s)
+  unfolding squashes
+  keeps_heads s = squashed_head (shape q p) (along s.path (paths_at s.base (mentioned q)))
+
+  both_run : (op : Value → Value → ℕ → Run) (a b : Expr) (f g : Value → Value) → SeesSame op → KeepsHeads f → KeepsHeads g
       → ((left n : ℕ) → run q.defs left (put (filled (cell_of q p)) a) n ≡ map_run f (run q.defs left (put (filled p) a) n))
       → ((left n : ℕ) → run q.defs left (put (filled (cell_of q p)) b) n ≡ map_run g (run q.defs left (put (filled p) b) n))
       → Agrees a b f g → BothRun op a b
-  both_run op a b f g sees ra rb h left n =
+  both_run op a b f g sees hf hg ra rb h left n =
       two_alike (run q.defs left (put (filled p) a) n) (run q.defs left (put (filled (cell_of q p)) a) n)
       (run q.defs left (put (filled p) b)) (run q.defs left (put (filled (cell_of q p)) b)) f g op (ra left n) (rb left)
-      (λ x y m k r t. sees x y (f x) (g y) k (h left n m left m k x y r t))
+      (λ x y m k r t. sees x y (f x) (g y) k (comparable_heads q.defs.table (hf x) (hg y)) (h left n m left m k x y r t))
 
   equality_by : (op : Value → Value → ℕ → Run) (a b : Expr) → SeesSame op → In a (sides_of e) → In b (sides_of e)
       → ((has_spot (spot_of a) && (has_spot (spot_of b) && (is_plain (spot_type q (spot_of a)) && same_types (spot_type q (spot_of a)) (spot_type q (spot_of b))))) ≡ true)
@@ -305,7 +311,7 @@ module _ (q : Query) (p : List Value) (point : IsPoint q p) (e : Expr) (among : 
       let pl : is_plain (Some u.0) ≡ true = ap is_plain (sym u.1) ∙ z.0 in
       let st : same_types (Some u.0) (spot_type q (spot_of b)) ≡ true = ap (λ (o : Option Ty). same_types o (spot_type q (spot_of b))) (sym u.1) ∙ z.1 in
       let tb = type_is u.0 (spot_type q (spot_of b)) st in
-      both_run op a b (squashes s.0) (squashes t.0) sees (place_runs a s.0 ha s.1) (place_runs b t.0 hb t.1)
+      both_run op a b (squashes s.0) (squashes t.0) sees (keeps_heads s.0) (keeps_heads t.0) (place_runs a s.0 ha s.1) (place_runs b t.0 hb t.1)
       (two_places a b s.0 t.0 u.0 ha hb s.1 t.1 pl (ap (spot_type q) (sym s.1) ∙ u.1) (ap (spot_type q) (sym t.1) ∙ tb))
     where
       some_type : (o : Option Ty) → is_plain o ≡ true → (u : Ty) × (o ≡ Some u)
@@ -315,13 +321,13 @@ module _ (q : Query) (p : List Value) (point : IsPoint q p) (e : Expr) (among : 
       let x = and_parts (has_spot (spot_of a)) (has_value (fixed_value q b)) h in
       let s = some_spot (spot_of a) x.0 in
       let v = some_value (fixed_value q b) x.1 in
-      both_run op a b (squashes s.0) (λ w. w) sees (place_runs a s.0 ha s.1) (closed_runs b (fixed_parts b v.0 v.1).0)
+      both_run op a b (squashes s.0) (λ w. w) sees (keeps_heads s.0) own_head (place_runs a s.0 ha s.1) (closed_runs b (fixed_parts b v.0 v.1).0)
       (against_constant a b s.0 v.0 ha hb s.1 v.1)
   equality_by op a b sees ha hb (inr (inr h)) =
       let x = and_parts (has_value (fixed_value q a)) (has_spot (spot_of b)) h in
       let s = some_spot (spot_of b) x.1 in
       let v = some_value (fixed_value q a) x.0 in
-      both_run op a b (λ w. w) (squashes s.0) sees (closed_runs a (fixed_parts a v.0 v.1).0) (place_runs b s.0 hb s.1)
+      both_run op a b (λ w. w) (squashes s.0) sees own_head (keeps_heads s.0) (closed_runs a (fixed_parts a v.0 v.1).0) (place_runs b s.0 hb s.1)
       (constant_against a b s.0 v.0 ha hb s.1 v.1)
 
   equality_alike : (op : Value → Value → ℕ → Run) (a b : Expr) → SeesSame op → In a (sides_of e) → In b (sides_of e) → is_equality q a b ≡ true → BothRun op a b
@@ -402,12 +408,15 @@ module _ (q : Query) (p : List Value) (point : IsPoint q p) (e : Expr) (among : 
       place_runs a s ha hs left n
       ∙ map_same (squashes s) (run q.defs left (put (filled p) a) n) (λ w m r. truth_same s w (typed_there a s truth hs (type_is truth (spot_type q (Some s)) h) left n m w r))
 
-  made_same : (c : ℕ) (s : Spot) (w : Value) → unary q.defs.table (is_made_by c) (squashes s w) ≡ unary q.defs.table (is_made_by c) w
+  abbrev tests : ℕ → Value → ℕ → Run
+  tests c x n = checked (takes_one q.defs.table (is_made_by c) x) (after (unary q.defs.table (is_made_by c) x) n)
+
+  made_same : (c : ℕ) (s : Spot) (w : Value) (n : ℕ) → tests c (squashes s w) n ≡ tests c w n
   unfolding squashes
-  made_same c s (num x) = refl
-  made_same c s (bool b) = refl
-  made_same c s (text t) = refl
-  made_same c s (cons d vs) = refl
+  made_same c s (num x) n = refl
+  made_same c s (bool b) n = refl
+  made_same c s (text t) n = refl
+  made_same c s (cons d vs) n = refl
 
   made_alike : (c : ℕ) (a : Expr) → In a (sides_of e) → has_spot (spot_of a) ≡ true → EndsAlike q.defs (cell_of q p) p (one (is_made_by c) a)
   made_alike c a ha h zero n = refl
@@ -415,16 +424,16 @@ module _ (q : Query) (p : List Value) (point : IsPoint q p) (e : Expr) (among : 
       let s = some_spot (spot_of a) h in
       entered (ltb n node_limit) _ _
       (one_alike (run q.defs left (put (filled p) a) (suc n)) (run q.defs left (put (filled (cell_of q p)) a) (suc n)) (squashes s.0)
-      (λ x. after (unary q.defs.table (is_made_by c) x)) (place_runs a s.0 ha s.1 left (suc n))
-      (λ x m r. ap (λ (z : Outcome). after z m) (made_same c s.0 x)))
+      (tests c) (place_runs a s.0 ha s.1 left (suc n)) (λ x m r. made_same c s.0 x m))
 
   equal_alike : (a b : Expr) → In a (sides_of e) → In b (sides_of e) → is_equality q a b ≡ true → EndsAlike q.defs (cell_of q p) p (equal a b)
   equal_alike a b ha hb h zero n = refl
   equal_alike a b ha hb h (suc left) n =
       entered (ltb n node_limit) _ _
-      (equality_alike (λ x y k. got (bool (same_value x y)) k) a b (λ x y x' y' k i. ap (λ (z : Bool). got (bool z) k) i) ha hb h left (suc n))
+      (equality_alike (λ x y k. checked (are_comparable q.defs.table x y) (got (bool (same_value x y)) k)) a b
+      (λ x y x' y' k c i. λ j. checked (c j) (got (bool (i j)) k)) ha hb h left (suc n))
 
-  binary_alike : (o : Binary) (a b : Expr) → BothRun (λ x y. after (binary o x y)) a b → EndsAlike q.defs (cell_of q p) p (two o a b)
+  binary_alike : (o : Binary) (a b : Expr) → BothRun (λ x y k. checked (takes_two q.defs.table o x y) (after (binary o x y) k)) a b → EndsAlike q.defs (cell_of q p) p (two o a b)
   binary_alike o a b h zero n = refl
   binary_alike o a b h (suc left) n = entered (ltb n node_limit) _ _ (h left (suc n))
 
@@ -449,8 +458,9 @@ module _ (q : Query) (p : List Value) (point : IsPoint q p) (e : Expr) (among : 
   differ_alike : (a b : Expr) → In a (sides_of e) → In b (sides_of e) → is_equality q a b ≡ true → EndsAlike q.defs (cell_of q p) p (two differ a b)
   differ_alike a b ha hb h =
       binary_alike differ a b
-      (equality_alike (λ x y. after (binary differ x y)) a b
-      (λ x y x' y' k i. ap (λ (z : Outcome). after z k) (differ_is x' y' ∙ (ap (λ (z : Bool). fine (bool (not z))) i ∙ sym (differ_is x y)))) ha hb h)
+      (equality_alike (λ x y k. checked (are_comparable q.defs.table x y) (after (binary differ x y) k)) a b
+      (λ x y x' y' k c i. let d : binary differ x' y' ≡ binary differ x y = differ_is x' y' ∙ (ap (λ (z : Bool). fine (bool (not z))) i ∙ sym (differ_is x y)) in
+      λ j. checked (c j) (after (d j) k)) ha hb h)
 
 two_alike_atom : (q : Query) (p : List Value) → IsPoint q p → (o : Binary) (a b : Expr) → In (two o a b) (atoms_of_all q.conjuncts) → is_order_atom q (two o a b) ≡ true
     → EndsAlike q.defs (cell_of q p) p (two o a b)

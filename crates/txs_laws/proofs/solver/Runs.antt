@@ -3,13 +3,13 @@ use Rattle.std.proofs.Common.{◌≡◌, ℕ, zero, suc, ◌+◌, Bool, true, fa
 use Rattle.std.specs.Prelude.{Option, Some, None, slice_get}
 use Rattle.std.proofs.lemmas.Bool.{eqb-true, cases_lt}
 use Rattle.txs_values.specs.Value.{Value, num, bool, text, cons, listed, place_of, Table}
-use Rattle.txs_terms.specs.Eval.{Defs, Run, got, bad, long, wrong, selector, run, eval, then_run, after, unary, broken, selected, node_limit, height_limit}
+use Rattle.txs_terms.specs.Eval.{Defs, Run, got, bad, long, wrong, selector, run, eval, then_run, after, unary, broken, selected, checked, is_akin, are_akin, node_limit, height_limit}
 use Rattle.txs_terms.specs.Expr.{negate, negation, to_text, from_text, len, is_made_by, select, Expr, val, slot, local, constant, one, two, equal, both, either, choose, apply, build, let_in, put, filled}
 use Rattle.txs_terms.specs.Rules.{In}
 use Rattle.txs_guard.specs.Atom.{value_in}
 use Rattle.txs_guard.specs.Mentioned.{Path, below, paths_at}
 use Rattle.txs_guard.specs.Place.{Spot, spot_of, under}
-use Rattle.txs_laws.proofs.rules.Limits.{run_better}
+use Rattle.txs_laws.proofs.rules.Limits.{run_better, checked_got}
 use Rattle.txs_laws.proofs.solver.Squash.{Shape, fields_at, squash, squash_each, along, along_push, step, follow, follow_push, map_some, field_of_squashed}
 use Rattle.txs_laws.proofs.solver.Members.{squash_all}
 use Rattle.txs_laws.proofs.rules.Tests.{cond_got, val_run, then_run_from}
@@ -83,16 +83,24 @@ fetch s qs true None o' f n h = rw (h refl) refl
 fetch s qs true (Some v) o' f n h = rw (h refl) refl
 fetch s qs false o o' f n h = refl
 
+-- what a selector gives
+abbrev selects : Table → ℕ → ℕ → Value → ℕ → Run
+selects table c j x n = checked (is_akin table c x) (after (unary table (select c j) x) n)
+
+checked_mapped : (f : Value → Value) (b : Bool) (r r' : Run) → r' ≡ map_run f r → checked b r' ≡ map_run f (checked b r)
+checked_mapped f true r r' e = e
+checked_mapped f false r r' e = refl
+
 select_alike : (table : Table) (s : Shape) (qs : List Path) (c j : ℕ) (p : Path) → In p (below c j qs) → (w : Value) (n : ℕ)
-    → after (unary table (select c j) (squash s qs w)) n ≡ map_run (squash s (below c j qs)) (after (unary table (select c j) w) n)
+    → selects table c j (squash s qs w) n ≡ map_run (squash s (below c j qs)) (selects table c j w n)
 select_alike table s qs c j p h (num x) n = refl
 select_alike table s qs c j p h (bool x) n = refl
 select_alike table s qs c j p h (text x) n = refl
 select_alike table s qs c j p h (cons d vs) n =
-    fetch s qs (eqb c d) (slice_get (listed vs) j) (slice_get (listed (squash_each s qs d 0 (fields_at (place_of s.table d)) vs)) j) (squash s (below c j qs)) n
+    checked_mapped (squash s (below c j qs)) (are_akin table c d) _ _ (fetch s qs (eqb c d) (slice_get (listed vs) j) (slice_get (listed (squash_each s qs d 0 (fields_at (place_of s.table d)) vs)) j) (squash s (below c j qs)) n
     (λ t. let e : d ≡ c = sym (eqb-true c d t) in
     let f = field_of_squashed s qs d 0 j j (fields_at (place_of s.table d)) vs (omega arith) p (subst (λ (z : ℕ). In p (below z j qs)) (sym e) h) in
-    f ∙ ap (λ (z : ℕ). map_some (squash s (below z j qs)) (slice_get (listed vs) j)) e)
+    f ∙ ap (λ (z : ℕ). map_some (squash s (below z j qs)) (slice_get (listed vs) j)) e))
 
 then_mapped : (f g : Value → Value) (r r' : Run) (go : Value → ℕ → Run) → r' ≡ map_run f r → ((w : Value) (n : ℕ) → go (f w) n ≡ map_run g (go w n))
     → then_run r' go ≡ map_run g (then_run r go)
@@ -113,10 +121,10 @@ place_alike defs s ss p (selected_at {e = e} {i = i} {p = q} c j h) r m (suc lef
     let a = place_alike defs s ss p h l.0 l.1 left (suc n) in
     let b = then_mapped (squash s (along q (paths_at i ss))) (squash s (below c j (along q (paths_at i ss))))
     (run defs left (put (filled p) e) (suc n)) (run defs left (put (filled (squash_all s ss 0 p)) e) (suc n))
-    (λ x. after (unary defs.table (select c j) x)) a
+    (selects defs.table c j) a
     (λ w k. select_alike defs.table s (along q (paths_at i ss)) c j r m' w k) in
-    let b' = subst (λ (z : List Path). then_run (run defs left (put (filled (squash_all s ss 0 p)) e) (suc n)) (λ x. after (unary defs.table (select c j) x))
-    ≡ map_run (squash s z) (then_run (run defs left (put (filled p) e) (suc n)) (λ x. after (unary defs.table (select c j) x)))) (sym (along_push q (c, j) (paths_at i ss))) b in
+    let b' = subst (λ (z : List Path). then_run (run defs left (put (filled (squash_all s ss 0 p)) e) (suc n)) (selects defs.table c j)
+    ≡ map_run (squash s z) (then_run (run defs left (put (filled p) e) (suc n)) (selects defs.table c j))) (sym (along_push q (c, j) (paths_at i ss))) b in
     map_cond (squash s (along (q ++ (c, j) ∷ []) (paths_at i ss))) (ltb n node_limit) _ _ b'
   where
     some_below : (c j : ℕ) (qs : List Path) (r : Path) → In r (below c j qs) → (x : Path) × In x qs
@@ -142,19 +150,19 @@ fetched true None w m n e = cc
 fetched true (Some v) w m n e = let q : v ≡ w = cc in ap Some q
 fetched false o w m n e = cc
 
-select_gives : (table : Table) (c j : ℕ) (x w : Value) (m n : ℕ) → after (unary table (select c j) x) m ≡ got w n → step (c, j) (Some x) ≡ Some w
+select_gives : (table : Table) (c j : ℕ) (x w : Value) (m n : ℕ) → selects table c j x m ≡ got w n → step (c, j) (Some x) ≡ Some w
 select_gives table c j (num x) w m n e = cc
 select_gives table c j (bool x) w m n e = cc
 select_gives table c j (text x) w m n e = cc
-select_gives table c j (cons d vs) w m n e = fetched (eqb c d) (slice_get (listed vs) j) w m n e
+select_gives table c j (cons d vs) w m n e = fetched (eqb c d) (slice_get (listed vs) j) w m n (checked_got (are_akin table c d) _ w n e).1
 
 pub place_gives : (defs : Defs) (p : List Value) {e : Expr} {i : ℕ} {q : Path} → IsPlace e i q → (left m n : ℕ) (w : Value)
     → run defs left (put (filled p) e) m ≡ got w n → follow (slice_get p i) q ≡ Some w
 place_gives defs p (at_slot i) left m n w h = base_gives defs p i left m n w h
 place_gives defs p (selected_at {e = e} {i = i} {p = q} c j g) zero m n w h = cc
 place_gives defs p (selected_at {e = e} {i = i} {p = q} c j g) (suc left) m n w h =
-    let k = cond_got (ltb m node_limit) (then_run (run defs left (put (filled p) e) (suc m)) (λ x. after (unary defs.table (select c j) x))) w n h in
-    let t = then_run_from (run defs left (put (filled p) e) (suc m)) (λ x. after (unary defs.table (select c j) x)) w n k in
+    let k = cond_got (ltb m node_limit) (then_run (run defs left (put (filled p) e) (suc m)) (selects defs.table c j)) w n h in
+    let t = then_run_from (run defs left (put (filled p) e) (suc m)) (selects defs.table c j) w n k in
     let f = place_gives defs p g left (suc m) t.1 t.0 t.2 in
     let s = select_gives defs.table c j t.0 w t.1 n t.3 in
     follow_push (slice_get p i) q (c, j) ∙ (ap (step (c, j)) f ∙ s)

@@ -3,7 +3,7 @@ use Rattle.std.specs.Prelude.{ℤ, Option, Some, None, slice_get}
 use Rattle.std.proofs.Common.{◌≡◌, ℕ, zero, suc, Bool, true, false, cond, eqb, ltb, List, [], ◌∷◌, ◌++◌, refl, sym, subst}
 use Rattle.std.proofs.lemmas.Bool.{and_parts, and_from, eqb-true}
 use Rattle.txs_values.specs.Value.{Ty, integer, truth, string, named, Value, num, bool, text, cons, Values, no_value, and_value, listed, packed, size, height, Table, Constructor, place_of, field_types, fields_in, has_type, has_fields, HasType, HaveTypes, fits, value_size_limit, value_height_limit}
-use Rattle.txs_values.specs.Spelling.{read_text}
+use Rattle.txs_values.specs.Reading.{read_text}
 use Rattle.txs_terms.specs.Expr.{Unary, Binary, divide, remainder, concat, differ, char_at}
 use Rattle.txs_terms.specs.Eval.{Fault, division, range, selector, form, high, long, big, wrong, Outcome, fine, broken, in_range, sized, selected, spelled, text_to, unary, binary, integer_binary, divided, char_of, char_from}
 use Rattle.txs_terms.specs.Typed.{UnaryOf, negate_of, negation_of, to_text_of, from_text_of, len_of, made_by_of, select_of, BinaryOf, plus_of, minus_of, times_of, divide_of, remainder_of, concat_of, differ_of, less_of, at_most_of, more_of, at_least_of, char_of as char_at_of}

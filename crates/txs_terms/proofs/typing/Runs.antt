@@ -3,13 +3,14 @@ use Rattle.std.specs.Prelude.{Option, Some, slice_get}
 use Rattle.std.proofs.Common.{◌≡◌, ◌≢◌, ℕ, zero, suc, Bool, true, false, cond, ltb, List, [], ◌∷◌, ◌++◌, refl, sym, ap, ◌∙◌, subst}
 use Rattle.txs_values.specs.Value.{Ty, truth, named, Value, num, bool, text, cons, packed, Table, field_types, has_fields, same_value, HasType, HaveTypes}
 use Rattle.txs_terms.specs.Expr.{Expr, Exprs, put, filled, with_local}
-use Rattle.txs_terms.specs.Eval.{Defs, wrong, long, Run, got, bad, Runs, gots, bads, Eval, Outcome, fine, broken, sized, unary, binary, after, then_run, then_runs, with_first, cons_run, each, if_true, body_run, node, run, node_limit, height_limit}
+use Rattle.txs_terms.specs.Eval.{Defs, wrong, long, Run, got, bad, Runs, gots, bads, Eval, Outcome, fine, broken, sized, unary, binary, after, then_run, then_runs, with_first, cons_run, each, if_true, body_run, node, run, node_limit, height_limit, checked, takes_one, takes_two, are_comparable, takes_fields, have_types}
 use Rattle.txs_terms.specs.Typed.{Signatures, Of, Ofs, val_of, slot_of, local_of, constant_of, one_of, two_of, equal_of, both_of, either_of, choose_of, apply_of, build_of, let_of, none_of, more_of', AreTyped, OfEach, OfBindings}
 use Rattle.txs_terms.specs.Menu.{all_values, bound_values, with_value, then_bound, with_front}
 use Rattle.txs_terms.proofs.typing.Lists.{no_member, same_some, have_joined}
 use Rattle.txs_terms.proofs.typing.Numbers.{fields_same}
 use Rattle.txs_terms.proofs.typing.Putting.{put_typed, filled_all, local_typed}
 use Rattle.txs_terms.proofs.typing.Outcomes.{IsRight, IsFine, packed_typed, sized_fine, unary_fine, binary_fine}
+use Rattle.txs_terms.proofs.typing.Checks.{comparable_typed, takes_one_typed, takes_two_typed, takes_fields_typed}
 
 module _ (table : Table) where
   abbrev pub EndsWell : Ty → Run → Type 0
@@ -49,7 +50,11 @@ module _ (table : Table) where
   if_well t (text x) a b h p q = cc
   if_well t (cons c vs) a b h p q = cc
 
-  body_well : (t : Ty) (o : Option Expr) (e : Expr) (go : Expr → Run) → o ≡ Some e → EndsWell t (go e) → EndsWell t (body_run o go)
+  checked_well : (t : Ty) (b : Bool) (r : Run) → b ≡ true → EndsWell t r → EndsWell t (checked b r)
+  checked_well t true r e h = h
+  checked_well t false r e h = cc
+
+  body_well : {A : Type 0} (t : Ty) (o : Option A) (e : A) (go : A → Run) → o ≡ Some e → EndsWell t (go e) → EndsWell t (body_run o go)
   body_well t o e go q h = subst (λ x. EndsWell t (body_run x go)) (sym q) h
 
   limited : (t : Ty) (b : Bool) (r : Run) → EndsWell t r → EndsWell t (cond b r (bad long))
@@ -76,14 +81,18 @@ module _ (defs : Defs) (signatures : Signatures) (typed : AreTyped defs signatur
       body_well defs.table t (slice_get defs.constants c) p.0 (λ x. ev x n) p.1 (k p.0 n t p.2)
   node_well ev k (one_of {o = o} {a = a} {s = s} {t = t} u x) l n =
       then_well defs.table s t (ev a n) _ (k a n s (subst (λ z. Of defs.table signatures [] z a s) l x))
-      (λ v m h. after_well defs.table t (unary defs.table o v) m (unary_fine defs.table u v h))
+      (λ v m h. checked_well defs.table t (takes_one defs.table o v) _ (takes_one_typed defs.table u v h)
+      (after_well defs.table t (unary defs.table o v) m (unary_fine defs.table u v h)))
   node_well ev k (two_of {o = o} {a = a} {b = b} {r = r} {s = s} {t = t} u x y) l n =
       then_well defs.table r t (ev a n) _ (k a n r (subst (λ z. Of defs.table signatures [] z a r) l x))
       (λ v m h. then_well defs.table s t (ev b m) _ (k b m s (subst (λ z. Of defs.table signatures [] z b s) l y))
-      (λ w i g. after_well defs.table t (binary o v w) i (binary_fine defs.table u v w h g)))
+      (λ w i g. checked_well defs.table t (takes_two defs.table o v w) _ (takes_two_typed defs.table u v w h g)
+      (after_well defs.table t (binary o v w) i (binary_fine defs.table u v w h g))))
   node_well ev k (equal_of {a = a} {b = b} {s = s} x y) l n =
       then_well defs.table s truth (ev a n) _ (k a n s (subst (λ z. Of defs.table signatures [] z a s) l x))
-      (λ v m h. then_well defs.table s truth (ev b m) (λ w. got (bool (same_value v w))) (k b m s (subst (λ z. Of defs.table signatures [] z b s) l y)) (λ w i g. refl))
+      (λ v m h. then_well defs.table s truth (ev b m) (λ w i. checked (are_comparable defs.table v w) (got (bool (same_value v w)) i))
+      (k b m s (subst (λ z. Of defs.table signatures [] z b s) l y))
+      (λ w i g. checked_well defs.table truth (are_comparable defs.table v w) (got (bool (same_value v w)) i) (comparable_typed defs.table s v w h g) refl))
   node_well ev k (both_of {a = a} {b = b} x y) l n =
       then_well defs.table truth truth (ev a n) _ (k a n truth (subst (λ z. Of defs.table signatures [] z a truth) l x))
       (λ v m h. if_well defs.table truth v (ev b m) (got (bool false) m) h (k b m truth (subst (λ z. Of defs.table signatures [] z b truth) l y)) refl)
@@ -97,12 +106,15 @@ module _ (defs : Defs) (signatures : Signatures) (typed : AreTyped defs signatur
   node_well ev k (apply_of {f = f} {es = es} {s = s} h rest) l n =
       let p = typed.functions f s h in
       then_all_well defs.table s.takes s.gives (each ev es n) _ (each_well ev k rest l n)
-      (λ vs m g. body_well defs.table s.gives (slice_get defs.functions f) p.0 (λ x. ev (put (filled vs) x) m) p.1
-      (k (put (filled vs) p.0) m s.gives (put_typed defs.table signatures p.2 (filled vs) [] (filled_all defs.table signatures vs s.takes g))))
+      (λ vs m g. body_well defs.table s.gives (slice_get defs.functions f) (record { takes = s.takes; body = p.0 })
+      (λ b. checked (have_types defs.table vs b.takes) (ev (put (filled vs) b.body) m)) p.1
+      (checked_well defs.table s.gives (have_types defs.table vs s.takes) (ev (put (filled vs) p.0) m) (packed_typed defs.table vs s.takes g)
+      (k (put (filled vs) p.0) m s.gives (put_typed defs.table signatures p.2 (filled vs) [] (filled_all defs.table signatures vs s.takes g)))))
   node_well ev k (build_of {c = c} {k = j} {es = es} {x = x} h rest) l n =
       then_all_well defs.table (field_types x.fields) (named j) (each ev es n) _ (each_well ev k rest l n)
-      (λ vs m g. after_well defs.table (named j) (sized (cons c (packed vs))) m (sized_fine defs.table (named j) (cons c (packed vs))
-      (subst (λ o. has_fields defs.table (packed vs) o ≡ true) (sym (fields_same defs.table c j x h)) (packed_typed defs.table vs (field_types x.fields) g))))
+      (λ vs m g. checked_well defs.table (named j) (takes_fields defs.table c vs) _ (takes_fields_typed defs.table c j x vs h g)
+      (after_well defs.table (named j) (sized (cons c (packed vs))) m (sized_fine defs.table (named j) (cons c (packed vs))
+      (subst (λ o. has_fields defs.table (packed vs) o ≡ true) (sym (fields_same defs.table c j x h)) (packed_typed defs.table vs (field_types x.fields) g)))))
   node_well ev k (let_of {a = a} {b = b} {s = s} {t = t} x y) l n =
       then_well defs.table s t (ev a n) _ (k a n s (subst (λ z. Of defs.table signatures [] z a s) l x))
       (λ v m h. k (with_local v b) m t (local_typed defs.table signatures y v s [] h (ap (λ z. z ++ s ∷ []) l)))

@@ -1,9 +1,9 @@
 -- One node of an evaluation with the values put in, and one under the values; and so the whole evaluation.
-use Rattle.std.proofs.Common.{◌≡◌, ℕ, zero, suc, ltb, List, [], ◌∷◌, ◌++◌, Option, slice_get, cond, refl, sym, ap, ◌∙◌}
-use Rattle.txs_values.specs.Value.{Value, cons, packed}
+use Rattle.std.proofs.Common.{◌≡◌, ℕ, zero, suc, Bool, true, ltb, List, [], ◌∷◌, ◌++◌, Option, slice_get, cond, refl, sym, ap, ◌∙◌}
+use Rattle.txs_values.specs.Value.{Value, bool, cons, packed, same_value}
 use Rattle.txs_terms.specs.Expr.{Expr, val, slot, local, constant, one, two, equal, both, either, choose, apply, build, let_in, Exprs, none, more, put, with_local, filled}
-use Rattle.txs_terms.specs.Eval.{Defs, Eval, Run, bad, long, Runs, node_limit, then_run, then_runs, cons_run, each, if_true, body_run, node, run, unary, binary, after, sized}
-use Rattle.txs_terms.specs.Under.{Environment, Under, looked_up, each_under, operands, parameters, node_under, run_under}
+use Rattle.txs_terms.specs.Eval.{Defs, Eval, Run, bad, long, Runs, node_limit, then_run, then_runs, cons_run, each, if_true, body_run, node, run, unary, binary, after, sized, got, checked, takes_one, takes_two, are_comparable, have_types, takes_fields}
+use Rattle.txs_terms.specs.Under.{Environment, Under, looked_up, each_under, operands, parameters, node_by, run_under}
 use Rattle.txs_terms.proofs.under.Seen.{local_under, seen, each_seen, seen_filled, seen_bare, local_seen}
 
 abbrev pub environment : List Value → List Value → Environment
@@ -18,8 +18,11 @@ thens_alike r s f g p h = λ k. then_runs (p k) (λ v m. h v m k)
 cons_alike : (r s : Run) (f g : ℕ → Runs) → r ≡ s → ((m : ℕ) → f m ≡ g m) → cons_run r f ≡ cons_run s g
 cons_alike r s f g p h = λ k. cons_run (p k) (λ m. h m k)
 
-body_alike : (o : Option Expr) (f g : Expr → Run) → ((e : Expr) → f e ≡ g e) → body_run o f ≡ body_run o g
+body_alike : {A : Type 0} (o : Option A) (f g : A → Run) → ((e : A) → f e ≡ g e) → body_run o f ≡ body_run o g
 body_alike o f g h = λ k. body_run o (λ e. h e k)
+
+checked_alike : (b : Bool) (r s : Run) → r ≡ s → checked b r ≡ checked b s
+checked_alike b r s p = ap (checked b) p
 
 if_alike : (v : Value) (a b c d : Run) → a ≡ c → b ≡ d → if_true v a b ≡ if_true v c d
 if_alike v a b c d p q = λ k. if_true v (p k) (q k)
@@ -49,20 +52,27 @@ module _ (defs : Defs) (ev : Eval) (under : Under)
   let_is : (vs ws : List Value) (e : Expr) (v : Value) (n : ℕ) → ev (with_local v (seen vs ws e)) n ≡ under (environment vs (ws ++ v ∷ [])) e n
   let_is vs ws e v n = ap (λ x. ev x n) (local_seen v vs ws e) ∙ below vs (ws ++ v ∷ []) e n
 
-  pub node_is : (vs ws : List Value) (e : Expr) (n : ℕ) → node defs ev (seen vs ws e) n ≡ node_under defs under (environment vs ws) e n
+  pub node_is : (vs ws : List Value) (e : Expr) (n : ℕ) → node defs ev (seen vs ws e) n ≡ node_by true defs under (environment vs ws) e n
   node_is vs ws (val v) n = refl
   node_is vs ws (slot i) n = slot_is vs i n
   node_is vs ws (local i) n = local_is ws i n
   node_is vs ws (constant k) n = body_alike (slice_get defs.constants k) _ _ (λ e. alone_is e n)
-  node_is vs ws (one o a) n = ap (λ r. then_run r (λ x. after (unary defs.table o x))) (below vs ws a n)
-  node_is vs ws (two o a b) n = then_alike _ _ _ _ (below vs ws a n) (λ x m. ap (λ r. then_run r (λ y. after (binary o x y))) (below vs ws b m))
-  node_is vs ws (equal a b) n = then_alike _ _ _ _ (below vs ws a n) (λ x m. then_alike _ _ _ _ (below vs ws b m) (λ y k. refl))
+  node_is vs ws (one o a) n =
+      ap (λ r. then_run r (λ x m. checked (takes_one defs.table o x) (after (unary defs.table o x) m))) (below vs ws a n)
+  node_is vs ws (two o a b) n =
+      then_alike _ _ _ _ (below vs ws a n)
+      (λ x m. ap (λ r. then_run r (λ y k. checked (takes_two defs.table o x y) (after (binary o x y) k))) (below vs ws b m))
+  node_is vs ws (equal a b) n =
+      then_alike _ _ _ _ (below vs ws a n)
+      (λ x m. ap (λ r. then_run r (λ y k. checked (are_comparable defs.table x y) (got (bool (same_value x y)) k))) (below vs ws b m))
   node_is vs ws (both a b) n = then_alike _ _ _ _ (below vs ws a n) (λ x m. if_alike x _ _ _ _ (below vs ws b m) refl)
   node_is vs ws (either a b) n = then_alike _ _ _ _ (below vs ws a n) (λ x m. if_alike x _ _ _ _ refl (below vs ws b m))
   node_is vs ws (choose c a b) n = then_alike _ _ _ _ (below vs ws c n) (λ x m. if_alike x _ _ _ _ (below vs ws a m) (below vs ws b m))
   node_is vs ws (apply f es) n =
-      thens_alike _ _ _ _ (each_is vs ws es n) (λ us m. body_alike (slice_get defs.functions f) _ _ (λ e. body_is us e m))
-  node_is vs ws (build c es) n = ap (λ r. then_runs r (λ us. after (sized (cons c (packed us))))) (each_is vs ws es n)
+      thens_alike _ _ _ _ (each_is vs ws es n)
+      (λ us m. body_alike (slice_get defs.functions f) _ _ (λ b. checked_alike (have_types defs.table us b.takes) _ _ (body_is us b.body m)))
+  node_is vs ws (build c es) n =
+      ap (λ r. then_runs r (λ us m. checked (takes_fields defs.table c us) (after (sized (cons c (packed us))) m))) (each_is vs ws es n)
   node_is vs ws (let_in x a b) n = then_alike _ _ _ _ (below vs ws a n) (let_is vs ws b)
 
 pub seen_is : (defs : Defs) (left : ℕ) (vs ws : List Value) (e : Expr) (n : ℕ)

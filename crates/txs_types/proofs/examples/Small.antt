@@ -7,6 +7,7 @@ use Rattle.txs_terms.specs.Defs.{Definitions}
 use Rattle.txs_syntax.specs.declared.ast.Name.{Name}
 use Rattle.txs_syntax.specs.declared.ast.Op.TheVariants as op
 use Rattle.txs_syntax.specs.declared.ast.Ast.{Ast}
+use Rattle.txs_syntax.specs.declared.ast.Binding.{Binding}
 use Rattle.txs_syntax.specs.declared.ast.Ast.TheVariants as tree
 use Rattle.txs_syntax.specs.declared.file.File.{File}
 use Rattle.txs_syntax.specs.declared.file.Def.TheVariants as def
@@ -97,6 +98,9 @@ read_and_compared =
 abbrev x_name : Name
 x_name = word 4 (codes "x")
 
+abbrev one_bound : Ast → List Binding
+one_bound a = record { name = x_name; value = a } ∷ []
+
 abbrev yes : Ast
 yes = tree.Name (word 3 (codes "True"))
 
@@ -109,11 +113,11 @@ digit_is_inside at n = fold_number Bool outside_step at (pos n)
 group_is_outside : from_outside (tree.Group 0 one_read) ≡ true
 group_is_outside = fold_group Bool outside_step 0 one_read ∙ read_is_outside
 
-let_is_outside : from_outside (tree.Let 0 x_name (digit 8 1) one_read) ≡ true
-let_is_outside = fold_let Bool outside_step 0 x_name (digit 8 1) one_read ∙ read_is_outside
+let_is_outside : from_outside (tree.Let 0 (one_bound (digit 8 1)) one_read) ≡ true
+let_is_outside = fold_let Bool outside_step 0 (one_bound (digit 8 1)) one_read ∙ read_is_outside
 
-let_is_inside : from_outside (tree.Let 0 x_name one_read (digit 30 1)) ≡ false
-let_is_inside = fold_let Bool outside_step 0 x_name one_read (digit 30 1) ∙ digit_is_inside 30 1
+let_is_inside : from_outside (tree.Let 0 (one_bound one_read) (digit 30 1)) ≡ false
+let_is_inside = fold_let Bool outside_step 0 (one_bound one_read) (digit 30 1) ∙ digit_is_inside 30 1
 
 if_is_outside : from_outside (tree.If 0 yes one_read (digit 30 1)) ≡ true
 if_is_outside = fold_if Bool outside_step 0 yes one_read (digit 30 1) ∙ read_is_outside
@@ -180,8 +184,8 @@ start_of_sum = fold_binary ℕ start_step op.Plus (tree.Group 23 (digit 24 1)) (
 start_of_negation : start (tree.Negate 5 (digit 7 1)) ≡ 5
 start_of_negation = fold_negate ℕ start_step 5 (digit 7 1)
 
-start_of_let : start (tree.Let 5 x_name (digit 13 1) (digit 18 2)) ≡ 5
-start_of_let = fold_let ℕ start_step 5 x_name (digit 13 1) (digit 18 2)
+start_of_let : start (tree.Let 5 (one_bound (digit 13 1)) (digit 18 2)) ≡ 5
+start_of_let = fold_let ℕ start_step 5 (one_bound (digit 13 1)) (digit 18 2)
 
 -- TYPEDEF Int ::= C ENDDEF
 abbrev int_file : File

@@ -4,6 +4,7 @@ use Rattle.std.proofs.lemmas.Option.{slice_get-map}
 use Rattle.std.proofs.lemmas.List.{length-map}
 use Rattle.std.specs.Prelude.{option_map}
 use Rattle.txs_values.specs.Value.{Ty, Table, place_of, place_from, field_types}
+use Rattle.txs_terms.specs.Eval.{Body}
 use Rattle.txs_terms.specs.Typed.{Signature, AreTypes, Of}
 use Rattle.txs_terms.specs.Defs.{Function, Constant, Definitions, HaveHeaders, HaveConstantTypes, signatures_of, AreDefined}
 use Rattle.txs_syntax.specs.declared.ast.Name.{Name}
@@ -200,9 +201,10 @@ module _ (file : File) (names : FileHasNames file) (ints : FileHasInts file) (no
       table = record { defaults = λ k below. has_default file none k below; known = λ c place e. known_places (table_of file) types same 0 file.defs c place known e };
       functions = λ i s h.
           let make : (Function → Signature) = λ f. record { takes = f.takes; gives = f.gives } in
+          let body : (Function → Body) = λ f. record { takes = f.takes; body = f.body } in
           let f = unmapped make fs i s h in (
             f.0.body,
-            slice_get-map (λ (f : Function). f.body) fs i ∙ ap (option_map (λ (f : Function). f.body)) f.1,
+            slice_get-map body fs i ∙ (ap (option_map body) f.1 ∙ ap (λ (s : Signature). Some (record { takes = s.takes; body = f.0.body })) f.2),
             subst (λ s. Of (table_of file) (signatures_of made) s.takes [] f.0.body s.gives) f.2
                 (function_bodies p made same sound known (have_ints file ints 0 file.defs (all_of file)) i f.0 f.1),
           );

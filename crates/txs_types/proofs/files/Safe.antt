@@ -3,6 +3,7 @@ use Rattle.std.proofs.Common.{◌≡◌, ap, sym, subst, ◌∙◌, List, [], op
 use Rattle.std.proofs.lemmas.Option.{slice_get-map}
 use Rattle.txs_values.specs.Value.{Table}
 use Rattle.txs_terms.specs.Expr.{Expr}
+use Rattle.txs_terms.specs.Eval.{Body}
 use Rattle.txs_terms.specs.Typed.{Of, Signature}
 use Rattle.txs_terms.specs.Defs.{Function, Constant, Definitions, signatures_of, AreDefined}
 use Rattle.txs_terms.specs.View.{definitions_of}
@@ -27,10 +28,11 @@ pub defined_are_safe : (d : Definitions) → AreDefined d → AreSafe d
 defined_are_safe d defined = record {
   functions = λ i f h.
       let make : (Function → Signature) = λ f. record { takes = f.takes; gives = f.gives } in
+      let body : (Function → Body) = λ f. record { takes = f.takes; body = f.body } in
       let k = defined.typed.functions i (make f) (slice_get-map make d.functions i ∙ ap (option_map make) h) in
       typed_is_safe d f.takes f.body f.gives defined
       (subst (λ (e : Expr). Of d.table (signatures_of d) f.takes [] e f.gives)
-      (some_injective (sym k.1 ∙ (slice_get-map (λ (f : Function). f.body) d.functions i ∙ ap (option_map (λ (f : Function). f.body)) h))) k.2);
+      (ap (λ (b : Body). b.body) (some_injective (sym k.1 ∙ (slice_get-map body d.functions i ∙ ap (option_map body) h)))) k.2);
   constants = λ i c h.
       let k = defined.typed.constants i c.ty (slice_get-map (λ (c : Constant). c.ty) d.constants i ∙ ap (option_map (λ (c : Constant). c.ty)) h) in
       typed_is_safe d [] c.body c.ty defined

@@ -12,11 +12,10 @@ use Rattle.txs_syntax.specs.declared.ast.Name.{Name}
 use Rattle.txs_syntax.specs.declared.ast.Ast.{Ast, out-Ast}
 use Rattle.txs_syntax.specs.declared.ast.Ast.TheVariants as tree
 use Rattle.txs_syntax.specs.declared.ast.Ast.TheOpen.{Ast-F}
-use Rattle.txs_syntax.specs.declared.ast.Ast.TheFolds.{fold-Ast}
 use Rattle.txs_typing.specs.declared.fault.TypeFault.{TypeFault}
 use Rattle.txs_typing.specs.declared.fault.TypeFault.TheVariants as fault
 use Rattle.txs_typing.specs.Names.{Scope, Meaning, named_value, named_constant, named_function, named_constructor, named_test, named_selector, named_not, named_to_string, named_from_string, named_len, named_at, Fits, anything, takes, called}
-use Rattle.txs_typing.specs.Elaborates.{Suits, Makes, Elaborates, call, ElaboratesEach, nothing, one_more, HasInts, ints_step, all_true}
+use Rattle.txs_typing.specs.Elaborates.{folded, Suits, Makes, Elaborates, call, ElaboratesEach, nothing, one_more, HasInts, ints_step, all_true}
 use Rattle.txs_typing.specs.Offends.{Offence, twice, unknown, arity, mismatch, empty_type, big_type, keeps_need_step, IsMiscalled, OffendsAt, Offends, unknown_call, wrong_number, from_nowhere, argument, stray_argument, other_type, NotAfter}
 use Rattle.txs_typing.specs.Answer.{offence_of, Told, want_of}
 use Rattle.txs_typing.specs.inner.View.{wants_of, Judges, JudgesAt}
@@ -42,9 +41,9 @@ calls_fitted scope want at m es t (Err f) r c a h = subst (CallsWith scope want 
 
 -- ---- the arguments
 
-all_have : (args : List Ast) → HaveInts args → all_true (map (fold-Ast Bool ints_step) args) ≡ true
+all_have : (args : List Ast) → HaveInts args → all_true (map (folded Bool ints_step) args) ≡ true
 all_have [] h = refl
-all_have (a ∷ args) h = ap (λ b. b && all_true (map (fold-Ast Bool ints_step) args)) h.0 ∙ all_have args h.1
+all_have (a ∷ args) h = ap (λ b. b && all_true (map (folded Bool ints_step) args)) h.0 ∙ all_have args h.1
 
 call_ints : (x : Name) (args : List Ast) → HaveInts args → HasInts (tree.Call x args)
 call_ints x args h = fold_call Bool ints_step x args ∙ all_have args h

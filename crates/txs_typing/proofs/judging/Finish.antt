@@ -33,7 +33,7 @@ ok≢err p = cc
 offends_of : {scope : Scope} {want : Option Ty} {a : Ast} {o : Offence} → OffendsAt (start a) scope want a o → Offends scope want a o
 offends_of w = stands refl w
 
-offends_at : {scope : Scope} {want : Option Ty} {a : Ast} {o : Offence} → Offends scope want a o → OffendsAt (start a) scope want a o
+pub offends_at : {scope : Scope} {want : Option Ty} {a : Ast} {o : Offence} → Offends scope want a o → OffendsAt (start a) scope want a o
 offends_at {scope = scope} {want = want} {a = a} {o = o} (stands e w) = subst (λ at. OffendsAt at scope want a o) (sym e) w
 
 pub judges_of : (scope : Scope) (want : Option Ty) (a : Ast) (r : Result Typed TypeFault) → JudgesAt (start a) scope want a r → Judges scope want a r

@@ -1,18 +1,19 @@
 -- What offends in a tree, by its outermost form.
-use Rattle.std.proofs.Common.{◌≡◌, ◌≢◌, ◌⊎◌, ℕ, Bool, sym, subst, ◌∙◌, List, length, slice_get, Option, Some, None, refl, inl, inr, true≢false}
+use Rattle.std.proofs.Common.{◌≡◌, ◌≢◌, ◌⊎◌, ℕ, Bool, sym, subst, ◌∙◌, List, [], ◌∷◌, length, slice_get, Option, Some, None, refl, inl, inr, true≢false}
 use Rattle.txs_values.specs.Value.{Ty, integer, truth}
 use Rattle.txs_terms.specs.Expr.{Expr}
 use Rattle.txs_syntax.specs.declared.ast.Op.{Op}
 use Rattle.txs_syntax.specs.declared.ast.Name.{Name}
 use Rattle.txs_syntax.specs.declared.ast.Ast.{Ast, out-Ast}
+use Rattle.txs_syntax.specs.declared.ast.Binding.{Binding}
 use Rattle.txs_syntax.specs.declared.ast.Ast.TheVariants as tree
 use Rattle.txs_syntax.specs.declared.ast.Ast.TheOpen.{Ast-F}
 use Rattle.txs_typing.specs.Names.{Scope, Meaning, Fits, anything, inside, called, meaning, named_from_string}
 use Rattle.txs_typing.specs.Elaborates.{Operator, Comparison, Elaborates, ElaboratesEach}
-use Rattle.txs_typing.specs.Offends.{Offence, unknown, arity, mismatch, KeepsNeed, keeps_need_step, earlier, later, IsMiscalled, OffendsAt, Offends, Shows, unknown_name, unknown_call, wrong_number, other_type, from_nowhere, argument, stray_argument, negated, left, right, earlier_side, later_side, grouped, condition, then_branch, else_branch, else_like_then, bound_value, body}
+use Rattle.txs_typing.specs.Offends.{Offence, unknown, arity, mismatch, KeepsNeed, keeps_need_step, earlier, later, IsMiscalled, OffendsAt, Offends, Shows, unknown_name, unknown_call, wrong_number, other_type, from_nowhere, argument, stray_argument, negated, left, right, earlier_side, later_side, grouped, condition, then_branch, else_branch, else_like_then, bound_value, after_value, body}
 use Rattle.txs_typing.proofs.trees.Folds.{fold_group, fold_if, fold_let}
 
-pub data Inside (at : ℕ) (scope : Scope) : Option Ty → Ast-F Ast → Offence → Type 0 where
+pub data Inside (at : ℕ) (scope : Scope) : Option Ty → Ast-F Ast Binding → Offence → Type 0 where
   i_name : {want : Option Ty} (x : Name) → meaning scope x.text ≡ None → Inside at scope want (Ast-F.Name x) (unknown x.at)
   i_call : {want : Option Ty} (x : Name) (args : List Ast) → called scope x.text ≡ None → Inside at scope want (Ast-F.Call x args) (unknown x.at)
   i_number : {want : Option Ty} (x : Name) (args : List Ast) (m : Meaning) (needs : List (Option Ty)) → called scope x.text ≡ Some (m, needs)
@@ -38,16 +39,18 @@ pub data Inside (at : ℕ) (scope : Scope) : Option Ty → Ast-F Ast → Offence
   i_then : {want : Option Ty} (i : ℕ) (p a b : Ast) (o : Offence) → Offends scope want a o → Inside at scope want (Ast-F.If i p a b) o
   i_else : (t : Ty) (i : ℕ) (p a b : Ast) (o : Offence) → Offends scope (Some t) b o → Inside at scope (Some t) (Ast-F.If i p a b) o
   i_like_then : (s : Ty) (i : ℕ) (p a b : Ast) (o : Offence) → Shows scope a s → Offends scope (Some s) b o → Inside at scope None (Ast-F.If i p a b) o
-  i_value : {want : Option Ty} (l : ℕ) (x : Name) (a b : Ast) (o : Offence) → Offends scope None a o → Inside at scope want (Ast-F.Let l x a b) o
-  i_body : {want : Option Ty} (l : ℕ) (x : Name) (a b : Ast) (o : Offence) (s : Ty) → Shows scope a s → Offends (inside scope x.text s) want b o
-      → Inside at scope want (Ast-F.Let l x a b) o
+  i_value : {want : Option Ty} (l : ℕ) (b : Binding) (bs : List Binding) (c : Ast) (o : Offence) → Offends scope None b.value o
+      → Inside at scope want (Ast-F.Let l (b ∷ bs) c) o
+  i_after : {want : Option Ty} (l : ℕ) (b : Binding) (bs : List Binding) (c : Ast) (o : Offence) (s : Ty) → Shows scope b.value s
+      → Offends (inside scope b.name.text s) want (tree.Let l bs c) o → Inside at scope want (Ast-F.Let l (b ∷ bs) c) o
+  i_body : {want : Option Ty} (l : ℕ) (c : Ast) (o : Offence) → Offends scope want c o → Inside at scope want (Ast-F.Let l [] c) o
 
 -- the tree is of another type than the needed one
 abbrev pub Other : ℕ → Scope → Option Ty → Ast → Offence → Type 0
 Other at scope None a o = ⊥
 Other at scope (Some t) a o = (e : Expr) × (s : Ty) × KeepsNeed a × Elaborates scope None a e s × (Fits scope t s → ⊥) × (o ≡ mismatch at)
 
-in_form : {at : ℕ} {scope : Scope} {want : Option Ty} {l m : Ast-F Ast} {o : Offence} → m ≡ l → Inside at scope want l o → Inside at scope want m o
+in_form : {at : ℕ} {scope : Scope} {want : Option Ty} {l m : Ast-F Ast Binding} {o : Offence} → m ≡ l → Inside at scope want l o → Inside at scope want m o
 in_form {at = at} {scope = scope} {want = want} {o = o} p d = subst (λ l. Inside at scope want l o) (sym p) d
 
 pub split : {at : ℕ} {scope : Scope} {want : Option Ty} {a : Ast} {o : Offence} → OffendsAt at scope want a o → Inside at scope want (out-Ast a) o ⊎ Other at scope want a o
@@ -69,8 +72,9 @@ split (condition {i = i} p a b {o = o} w) = inl (in_form (tree.outs-If i p a b) 
 split (then_branch {i = i} p a b {o = o} w) = inl (in_form (tree.outs-If i p a b) (i_then i p a b o w))
 split (else_branch {t = t} {i = i} p a b {o = o} w) = inl (in_form (tree.outs-If i p a b) (i_else t i p a b o w))
 split (else_like_then {s = s} {i = i} p a b {o = o} h w) = inl (in_form (tree.outs-If i p a b) (i_like_then s i p a b o h w))
-split (bound_value {l = l} {x = x} a b {o = o} w) = inl (in_form (tree.outs-Let l x a b) (i_value l x a b o w))
-split (body {l = l} {x = x} a b {o = o} {s = s} h w) = inl (in_form (tree.outs-Let l x a b) (i_body l x a b o s h w))
+split (bound_value {l = l} b bs c {o = o} w) = inl (in_form (tree.outs-Let l (b ∷ bs) c) (i_value l b bs c o w))
+split (after_value {l = l} b bs c {o = o} {s = s} h w) = inl (in_form (tree.outs-Let l (b ∷ bs) c) (i_after l b bs c o s h w))
+split (body {l = l} c {o = o} w) = inl (in_form (tree.outs-Let l [] c) (i_body l c o w))
 
 -- what offends in a tree that keeps the need, needed at a type, offends if none is needed, or the tree is of another type
 pub at_none : {at : ℕ} {scope : Scope} {want : Option Ty} {a : Ast} {o : Offence} → OffendsAt at scope want a o → KeepsNeed a → OffendsAt at scope None a o ⊎ (o ≡ mismatch at)
@@ -91,8 +95,9 @@ at_none (condition {i = i} p a b q) w = absurd (true≢false (sym w ∙ fold_if 
 at_none (then_branch {i = i} p a b q) w = absurd (true≢false (sym w ∙ fold_if Bool keeps_need_step i p a b))
 at_none (else_branch {i = i} p a b q) w = absurd (true≢false (sym w ∙ fold_if Bool keeps_need_step i p a b))
 at_none (else_like_then {i = i} p a b h q) w = absurd (true≢false (sym w ∙ fold_if Bool keeps_need_step i p a b))
-at_none (bound_value {l = l} {x = x} a b q) w = absurd (true≢false (sym w ∙ fold_let Bool keeps_need_step l x a b))
-at_none (body {l = l} {x = x} a b h q) w = absurd (true≢false (sym w ∙ fold_let Bool keeps_need_step l x a b))
+at_none (bound_value {l = l} b bs c q) w = absurd (true≢false (sym w ∙ fold_let Bool keeps_need_step l (b ∷ bs) c))
+at_none (after_value {l = l} b bs c h q) w = absurd (true≢false (sym w ∙ fold_let Bool keeps_need_step l (b ∷ bs) c))
+at_none (body {l = l} c q) w = absurd (true≢false (sym w ∙ fold_let Bool keeps_need_step l [] c))
 
 -- what offends at one place offends, perhaps elsewhere, at another
 pub moved : {at : ℕ} {scope : Scope} {want : Option Ty} {a : Ast} {o : Offence} (to : ℕ) → OffendsAt at scope want a o → (p : Offence) × OffendsAt to scope want a p
@@ -113,5 +118,6 @@ moved to (condition p a b {o = o} q) = (o, condition p a b q)
 moved to (then_branch p a b {o = o} q) = (o, then_branch p a b q)
 moved to (else_branch p a b {o = o} q) = (o, else_branch p a b q)
 moved to (else_like_then p a b {o = o} h q) = (o, else_like_then p a b h q)
-moved to (bound_value a b {o = o} q) = (o, bound_value a b q)
-moved to (body a b {o = o} h q) = (o, body a b h q)
+moved to (bound_value b bs c {o = o} q) = (o, bound_value b bs c q)
+moved to (after_value b bs c {o = o} h q) = (o, after_value b bs c h q)
+moved to (body c {o = o} q) = (o, body c q)

@@ -1,37 +1,35 @@
--- What is judged of operators, choices and bindings.
+-- What is judged of operators and choices.
 use Rattle.std.proofs.Common.{◌≡◌, ◌⊎◌, ℕ, Bool, true, false, cond, ◌&&◌, ap, sym, subst, ◌∙◌, Option, Some, None, Result, Ok, Err, refl, inl, inr, true≢false}
 use Rattle.txs_values.specs.Value.{Ty, integer, truth}
 use Rattle.txs_values.specs.View.{ty_of}
 use Rattle.txs_terms.specs.declared.expr.Expr as rust_expr
-use Rattle.txs_terms.specs.Expr.{Expr, one, negate, choose, let_in}
+use Rattle.txs_terms.specs.Expr.{Expr, one, negate, choose}
 use Rattle.txs_terms.specs.View.{expr_of}
 use Rattle.txs_syntax.specs.declared.ast.Op.{Op}
 use Rattle.txs_syntax.specs.declared.ast.Op.TheVariants as op
-use Rattle.txs_syntax.specs.declared.ast.Name.{Name}
 use Rattle.txs_syntax.specs.declared.ast.Ast.{Ast, out-Ast}
 use Rattle.txs_syntax.specs.declared.ast.Ast.TheVariants as tree
 use Rattle.txs_syntax.specs.declared.ast.Ast.TheOpen.{Ast-F}
-use Rattle.txs_syntax.specs.declared.ast.Ast.TheFolds.{fold-Ast}
 use Rattle.txs_typing.specs.declared.fault.TypeFault.{TypeFault}
 use Rattle.txs_typing.specs.declared.fault.TypeFault.TheVariants as fault
-use Rattle.txs_typing.specs.Names.{Scope, anything, inside}
-use Rattle.txs_typing.specs.Elaborates.{Suits, right_first, Operator, or_operator, and_operator, less_operator, at_most_operator, more_operator, at_least_operator, join_operator, plus_operator, minus_operator, times_operator, divide_operator, remainder_operator, Comparison, equal_comparison, different_comparison, Elaborates, negated, operated, compared, compared_back, grouped, chosen, chosen_freely, bound, HasInts, ints_step}
-use Rattle.txs_typing.specs.Offends.{Offence, KeepsNeed, keeps_need_step, earlier, later, OffendsAt, Offends, Shows, as_typed, as_anything, negated as side_negated, left, right, earlier_side, later_side, grouped as in_brackets, condition, then_branch, else_branch, else_like_then, bound_value, body}
+use Rattle.txs_typing.specs.Names.{Scope, anything}
+use Rattle.txs_typing.specs.Elaborates.{folded, Suits, right_first, Operator, or_operator, and_operator, less_operator, at_most_operator, more_operator, at_least_operator, join_operator, plus_operator, minus_operator, times_operator, divide_operator, remainder_operator, Comparison, equal_comparison, different_comparison, Elaborates, negated, operated, compared, compared_back, grouped, chosen, chosen_freely, HasInts, ints_step}
+use Rattle.txs_typing.specs.Offends.{Offence, KeepsNeed, keeps_need_step, earlier, later, OffendsAt, Offends, Shows, as_typed, as_anything, negated as side_negated, left, right, earlier_side, later_side, grouped as in_brackets, condition, then_branch, else_branch, else_like_then}
 use Rattle.txs_typing.specs.Answer.{Told}
 use Rattle.txs_typing.specs.inner.Told.{Lesser, memory_first, left_first, right_first as second_first, Joined}
 use Rattle.txs_typing.specs.inner.View.{Judges, JudgesAt}
 use Rattle.txs_typing.specs.inner.Parts.{Typed, operand, outcome, make, shown, Fitted, Made, MadeTyped, choice_type, Tells, Means, InOrder, OffendInOrder, Sides, Turned}
 use Rattle.txs_typing.proofs.trees.Unique.{some_injective, unique, same_operator, no_operator}
 use Rattle.txs_typing.proofs.trees.NotBoth.{none≢some, not_both}
-use Rattle.txs_typing.proofs.trees.Folds.{fold_negate, fold_binary, fold_group, fold_if, fold_let}
-use Rattle.txs_typing.proofs.judging.Inside.{Inside, i_negated, i_left, i_right, i_earlier, i_later, i_grouped, i_condition, i_then, i_else, i_like_then, i_value, i_body, Other, split}
+use Rattle.txs_typing.proofs.trees.Folds.{fold_negate, fold_binary, fold_group, fold_if}
+use Rattle.txs_typing.proofs.judging.Inside.{Inside, i_negated, i_left, i_right, i_earlier, i_later, i_grouped, i_condition, i_then, i_else, i_like_then, Other, split}
 use Rattle.txs_typing.proofs.judging.Told.{Either, told_same, told_either, told_left, told_right, none_of_both}
 use Rattle.txs_typing.proofs.judging.Finish.{ok_injective, ok≢err, tells_of, no_offence, finish_fitted, fault_of_parts}
 
 -- ---- two results
 
 -- want of memory goes first
-memory_lesser : {g h : TypeFault} → Lesser fault.NoMemory g h → h ≡ fault.NoMemory
+pub memory_lesser : {g h : TypeFault} → Lesser fault.NoMemory g h → h ≡ fault.NoMemory
 memory_lesser memory_first = refl
 memory_lesser (left_first a b p q n) = refl
 memory_lesser (second_first a b p q n) = absurd (none≢some p)
@@ -52,16 +50,16 @@ tells_same G H P Q (Err f) g to back h = told_same f P Q to back h
 -- ---- one tree, and another at its type
 
 -- the type that the first one shows is needed of the other
-shows_it : (scope : Scope) (a : Ast) (t : Typed) (s : Ty) → Means scope None a t → Shows scope a s → s ≡ ty_of t.ty
+pub shows_it : (scope : Scope) (a : Ast) (t : Typed) (s : Ty) → Means scope None a t → Shows scope a s → s ≡ ty_of t.ty
 shows_it scope a t s m (as_typed d) = (unique d m.0).1
 shows_it scope a t _ m (as_anything {o = o} w) = absurd (no_offence scope None a t m o w)
 
-shows_any : (scope : Scope) (a : Ast) (o : Offence) (s : Ty) → Offends scope None a o → Shows scope a s → s ≡ anything scope
+pub shows_any : (scope : Scope) (a : Ast) (o : Offence) (s : Ty) → Offends scope None a o → Shows scope a s → s ≡ anything scope
 shows_any scope a o s w (as_typed {e = e} {t = t} d) = absurd (not_both scope None a e t o d w)
 shows_any scope a o _ w (as_anything v) = refl
 
 -- some offence stands, or memory was wanting
-some_offence : (f : TypeFault) (P : Offence → Type 0) → Told f P → (f ≡ fault.NoMemory) ⊎ ((o : Offence) × P o)
+pub some_offence : (f : TypeFault) (P : Offence → Type 0) → Told f P → (f ≡ fault.NoMemory) ⊎ ((o : Offence) × P o)
 some_offence (fault.Twice at) P d = inr (_, d.stands)
 some_offence (fault.Unknown at) P d = inr (_, d.stands)
 some_offence (fault.Arity at) P d = inr (_, d.stands)
@@ -71,7 +69,7 @@ some_offence (fault.BigType at) P d = inr (_, d.stands)
 some_offence fault.NoMemory P d = inl refl
 
 -- what offends in the other, which stands in this scope
-abbrev After : Scope → Ast → (Ty → Offence → Type 0) → Offence → Type 0
+abbrev pub After : Scope → Ast → (Ty → Offence → Type 0) → Offence → Type 0
 After scope a Q o = (s : Ty) × Shows scope a s × Q s o
 
 after_it : (scope : Scope) (a : Ast) (Q : Ty → Offence → Type 0) (t : Ty) → Shows scope a t → ((s : Ty) → Shows scope a s → s ≡ t)
@@ -209,7 +207,7 @@ comparison_inside form c (i_earlier p a b o form' c' w) = inl w
 comparison_inside form c (i_later p a b o s form' c' h w) = inr (s, h, w)
 
 both_ints : (p : Op) (a b : Ast) → HasInts a → HasInts b → HasInts (tree.Binary p a b)
-both_ints p a b h k = fold_binary Bool ints_step p a b ∙ (ap (λ x. x && fold-Ast Bool ints_step b) h ∙ k)
+both_ints p a b h k = fold_binary Bool ints_step p a b ∙ (ap (λ x. x && folded Bool ints_step b) h ∙ k)
 
 -- the expression of both sides
 abbrev pub sided : Op → Typed × Typed → Expr
@@ -259,16 +257,13 @@ tells_back scope a b (Err f) r e h w =
     subst (Tells (Sides scope a b) (OffendInOrder scope (earlier a b) (later a b))) (sym w)
     (subst (λ z. Told f (OffendInOrder scope (cond z b a) (cond z a b))) (sym e) h)
 
--- ---- brackets, choices, bindings
+-- ---- brackets, choices
 
 not_group : (bracket : ℕ) (a : Ast) → KeepsNeed (tree.Group bracket a) → ⊥
 not_group bracket a w = true≢false (sym w ∙ fold_group Bool keeps_need_step bracket a)
 
 not_if : (i : ℕ) (c a b : Ast) → KeepsNeed (tree.If i c a b) → ⊥
 not_if i c a b w = true≢false (sym w ∙ fold_if Bool keeps_need_step i c a b)
-
-not_let : (l : ℕ) (x : Name) (a b : Ast) → KeepsNeed (tree.Let l x a b) → ⊥
-not_let l x a b w = true≢false (sym w ∙ fold_let Bool keeps_need_step l x a b)
 
 group_inside : {at : ℕ} {scope : Scope} {want : Option Ty} {bracket : ℕ} {a : Ast} {o : Offence} → Inside at scope want (Ast-F.Group bracket a) o → OffendsAt at scope want a o
 group_inside (i_grouped bracket a o w) = w
@@ -298,7 +293,7 @@ if_free_inside (i_like_then s i c a b o h w) = inr (inr (s, h, w))
 if_ints : (i : ℕ) (c a b : Ast) → HasInts c → HasInts a → HasInts b → HasInts (tree.If i c a b)
 if_ints i c a b h k l =
     fold_if Bool ints_step i c a b
-    ∙ (ap (λ x. x && (fold-Ast Bool ints_step a && fold-Ast Bool ints_step b)) h ∙ (ap (λ x. x && fold-Ast Bool ints_step b) k ∙ l))
+    ∙ (ap (λ x. x && (folded Bool ints_step a && folded Bool ints_step b)) h ∙ (ap (λ x. x && folded Bool ints_step b) k ∙ l))
 
 -- the expression of a choice, and its type
 abbrev pub choice_of : Option Ty → Typed × (Typed × Typed) → Expr × Ty
@@ -326,26 +321,3 @@ if_free_node at i scope c a b x y found r h k j m =
     (λ p g. (chosen_freely c a b g.0.0 g.1.0.0 g.1.1.0, if_ints i c a b g.0.1 g.1.0.1 g.1.1.1))
     (λ o q. elim q [ inl v ↦ condition c a b v | inr (inl v) ↦ then_branch c a b v | inr (inr v) ↦ else_like_then c a b v.1 v.2 ])
     (λ o q. if_free_inside (subst (λ l. Inside at scope None l o) (tree.outs-If i c a b) q))
-
-abbrev BodyOffends : Scope → Option Ty → Name → Ast → Ty → Offence → Type 0
-BodyOffends scope want x b s = Offends (inside scope x.text s) want b
-
-let_inside : {at : ℕ} {scope : Scope} {want : Option Ty} {l : ℕ} {x : Name} {a b : Ast} {o : Offence} → Inside at scope want (Ast-F.Let l x a b) o
-    → Either (Offends scope None a) (After scope a (BodyOffends scope want x b)) o
-let_inside (i_value l x a b o w) = inl w
-let_inside (i_body l x a b o s h w) = inr (s, h, w)
-
-let_ints : (l : ℕ) (x : Name) (a b : Ast) → HasInts a → HasInts b → HasInts (tree.Let l x a b)
-let_ints l x a b h k = fold_let Bool ints_step l x a b ∙ (ap (λ y. y && fold-Ast Bool ints_step b) h ∙ k)
-
-pub let_node : (at l : ℕ) (scope : Scope) (want : Option Ty) (x : Name) (a b : Ast) (v w : Result Typed TypeFault) (found : Result (Typed × Typed) TypeFault) (r : Result Typed TypeFault)
-    → Judges scope None a v → Judges (inside scope x.text (shown scope v)) want b w → Joined v w found
-    → MadeTyped (λ (p : Typed × Typed). (let_in x.text (expr_of p.0.expr) (expr_of p.1.expr), ty_of p.1.ty)) found r → JudgesAt at scope want (tree.Let l x a b) r
-let_node at l scope want x a b v w found r h k j m =
-    part_node at scope want (tree.Let l x a b) (λ p. Means scope None a p.0 × Means (inside scope x.text (ty_of p.0.ty)) want b p.1)
-    (Either (Offends scope None a) (After scope a (BodyOffends scope want x b)))
-    (λ (p : Typed × Typed). (let_in x.text (expr_of p.0.expr) (expr_of p.1.expr), ty_of p.1.ty)) found r (not_let l x a b)
-    (tells_after scope a (λ s. Means (inside scope x.text s) want b) (BodyOffends scope want x b) v w found h (tells_of (inside scope x.text (shown scope v)) want b w k) j) m
-    (λ p g. (bound a b g.0.0 g.1.0, let_ints l x a b g.0.1 g.1.1))
-    (λ o q. elim q [ inl z ↦ bound_value a b z | inr z ↦ body a b z.1 z.2 ])
-    (λ o q. let_inside (subst (λ n. Inside at scope want n o) (tree.outs-Let l x a b) q))

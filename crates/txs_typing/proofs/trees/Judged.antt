@@ -9,13 +9,14 @@ use Rattle.txs_syntax.specs.declared.ast.Op.{Op}
 use Rattle.txs_syntax.specs.declared.ast.Op.TheVariants as op
 use Rattle.txs_syntax.specs.declared.ast.Name.{Name}
 use Rattle.txs_syntax.specs.declared.ast.Ast.{Ast, roll-Ast, map-Ast}
+use Rattle.txs_syntax.specs.declared.ast.Binding.{Binding, roll-Binding}
 use Rattle.txs_syntax.specs.declared.ast.Ast.TheVariants as tree
 use Rattle.txs_syntax.specs.declared.ast.Ast.TheOpen.{Ast-F}
 use Rattle.txs_syntax.specs.declared.ast.Ast.TheFolds.{ind-Ast}
 use Rattle.txs_typing.specs.Names.{Scope, Meaning, named_value, named_constant, named_function, named_constructor, named_test, named_selector, named_not, named_to_string, named_from_string, named_len, named_at, Fits, IsUnknown, inside, takes, called, global_of, meaning}
 use Rattle.txs_typing.proofs.Laws.{ElaboratesOrOffends}
-use Rattle.txs_typing.specs.Elaborates.{Suits, right_first, Operator, or_operator, and_operator, less_operator, at_most_operator, more_operator, at_least_operator, join_operator, plus_operator, minus_operator, times_operator, divide_operator, remainder_operator, Comparison, equal_comparison, different_comparison, Makes, function_made, value_made, constructor_made, test_made, selector_made, not_made, to_string_made, from_string_made, len_made, at_made, Elaborates, number, quoted, name, call, negated, operated, compared, compared_back, grouped, chosen, chosen_freely, bound, ElaboratesEach, nothing, one_more}
-use Rattle.txs_typing.specs.Offends.{Offence, unknown, arity, mismatch, KeepsNeed, keeps_need_step, start, OffendsAt, Offends, Shows, stands, as_typed, unknown_name, unknown_call, wrong_number, other_type, from_nowhere, argument, negated as side_negated, left, right, earlier_side, later_side, grouped as inside_grouped, condition, then_branch, else_branch, else_like_then, bound_value, body}
+use Rattle.txs_typing.specs.Elaborates.{Suits, right_first, Operator, or_operator, and_operator, less_operator, at_most_operator, more_operator, at_least_operator, join_operator, plus_operator, minus_operator, times_operator, divide_operator, remainder_operator, Comparison, equal_comparison, different_comparison, Makes, function_made, value_made, constructor_made, test_made, selector_made, not_made, to_string_made, from_string_made, len_made, at_made, Elaborates, number, quoted, name, call, negated, operated, compared, compared_back, grouped, chosen, chosen_freely, bound, unbound, ElaboratesEach, nothing, one_more}
+use Rattle.txs_typing.specs.Offends.{Offence, unknown, arity, mismatch, KeepsNeed, keeps_need_step, start, OffendsAt, Offends, Shows, stands, as_typed, unknown_name, unknown_call, wrong_number, other_type, from_nowhere, argument, negated as side_negated, left, right, earlier_side, later_side, grouped as inside_grouped, condition, then_branch, else_branch, else_like_then, bound_value, after_value, body}
 use Rattle.txs_typing.proofs.trees.Folds.{fold_number, fold_text, fold_name, fold_call, fold_negate, fold_binary}
 use Rattle.txs_typing.proofs.trees.Unique.{some_injective}
 use Rattle.txs_typing.proofs.trees.NotBoth.{none≢some}
@@ -311,18 +312,26 @@ judge_if i p a b at scope (Some t) = elim (verdict p.0 p.1 scope (Some truth)) [
   ]
 ]
 
-judge_let : (l : ℕ) (x : Name) (a b : Child) → Judged (tree.Let l x a.0 b.0)
-judge_let l x a b at scope want = elim (verdict a.0 a.1 scope None) [
-  | inr w ↦ inr (w.0, bound_value a.0 b.0 w.1)
-  | inl d ↦ elim (verdict b.0 b.1 (inside scope x.text d.1) want) [
-    | inr w ↦ inr (w.0, body a.0 b.0 (as_typed d.2) w.1)
-    | inl d' ↦ inl (let_in x.text d.0 d'.0, d'.1, bound a.0 b.0 d.2 d'.2)
+-- a binding with the judgement of its value
+abbrev ChildBinding : Type 0
+ChildBinding = (b : Binding) × Judged b.value
+
+abbrev bare_bindings : List ChildBinding → List Binding
+bare_bindings bs = map (λ (b : ChildBinding). b.0) bs
+
+judge_let : (l : ℕ) (bs : List ChildBinding) (c : Child) → Judged (tree.Let l (bare_bindings bs) c.0)
+judge_let l [] c at scope want = elim (verdict c.0 c.1 scope want) [ inr w ↦ inr (w.0, body c.0 w.1) | inl d ↦ inl (d.0, d.1, unbound c.0 d.2) ]
+judge_let l (b ∷ bs) c at scope want = elim (verdict b.0.value b.1 scope None) [
+  | inr w ↦ inr (w.0, bound_value b.0 (bare_bindings bs) c.0 w.1)
+  | inl d ↦ elim (verdict (tree.Let l (bare_bindings bs) c.0) (judge_let l bs c) (inside scope b.0.name.text d.1) want) [
+    | inr w ↦ inr (w.0, after_value b.0 (bare_bindings bs) c.0 (as_typed d.2) w.1)
+    | inl d' ↦ inl (let_in b.0.name.text d.0 d'.0, d'.1, bound b.0 (bare_bindings bs) c.0 d.2 d'.2)
   ]
 ]
 
 -- ---- trees
 
-judge_form : (l : Ast-F Child) → Judged (roll-Ast (map-Ast Child Ast (λ c. c.0) l))
+judge_form : (l : Ast-F Child ChildBinding) → Judged (roll-Ast (map-Ast Child ChildBinding Ast Binding (λ c. c.0) (λ b. b.0) l))
 judge_form (Ast-F.Number at n) =
     subst Judged (sym (tree.rolls-Number at n)) (λ offset scope want. finish offset scope want (tree.Number at n) (val (num n)) integer (fold_number Bool keeps_need_step at n) (λ w q. number q))
 judge_form (Ast-F.Text at s) =
@@ -333,10 +342,12 @@ judge_form (Ast-F.Negate at a) = subst Judged (sym (tree.rolls-Negate at a.0)) (
 judge_form (Ast-F.Binary o a b) = subst Judged (sym (tree.rolls-Binary o a.0 b.0)) (judge_binary o a b)
 judge_form (Ast-F.Group at a) = subst Judged (sym (tree.rolls-Group at a.0)) (judge_group at a)
 judge_form (Ast-F.If at p a b) = subst Judged (sym (tree.rolls-If at p.0 a.0 b.0)) (judge_if at p a b)
-judge_form (Ast-F.Let at x a b) = subst Judged (sym (tree.rolls-Let at x a.0 b.0)) (judge_let at x a b)
+judge_form (Ast-F.Let at bs c) = subst Judged (sym (tree.rolls-Let at (bare_bindings bs) c.0)) (judge_let at bs c)
 
 judged : (a : Ast) → Judged a
-judged = ind-Ast Judged (λ x y is. subst (λ l. Judged (roll-Ast l)) is (judge_form y))
+judged =
+    ind-Ast Judged (λ (b : Binding). Judged b.value) (λ x y is. subst (λ l. Judged (roll-Ast l)) is (judge_form y))
+    (λ x y is. subst (λ l. Judged (roll-Binding l).value) is y.value.1)
 
 pub elaborates_or_offends : ElaboratesOrOffends
 elaborates_or_offends scope want a = verdict a (judged a) scope want

@@ -1,16 +1,17 @@
 -- A tree that means an expression has no offence.
-use Rattle.std.proofs.Common.{◌≡◌, ◌≢◌, ◌⊎◌, ℕ, ℤ, Bool, true, false, cond, ap, sym, subst, ◌∙◌, List, ◌∷◌, length, slice_get, Option, Some, None, refl, inl, inr, zero, suc, true≢false}
+use Rattle.std.proofs.Common.{◌≡◌, ◌≢◌, ◌⊎◌, ℕ, ℤ, Bool, true, false, cond, ap, sym, subst, ◌∙◌, List, [], ◌∷◌, length, slice_get, Option, Some, None, refl, inl, inr, zero, suc, true≢false}
 use Rattle.txs_values.specs.Value.{Ty, integer, truth}
 use Rattle.txs_terms.specs.Expr.{Expr}
 use Rattle.txs_syntax.specs.declared.ast.Op.{Op}
 use Rattle.txs_syntax.specs.declared.ast.Name.{Name}
 use Rattle.txs_syntax.specs.declared.ast.Ast.{Ast, out-Ast}
+use Rattle.txs_syntax.specs.declared.ast.Binding.{Binding}
 use Rattle.txs_syntax.specs.declared.ast.Ast.TheVariants as tree
 use Rattle.txs_syntax.specs.declared.ast.Ast.TheOpen.{Ast-F}
 use Rattle.txs_typing.specs.Names.{Scope, Meaning, Fits, inside, called, meaning, named_from_string}
 use Rattle.txs_typing.proofs.Laws.{NotBoth}
-use Rattle.txs_typing.specs.Elaborates.{right_first, Operator, Comparison, Makes, function_made, value_made, constructor_made, test_made, selector_made, not_made, to_string_made, len_made, at_made, Elaborates, number, quoted, name, call, negated, operated, compared, compared_back, grouped, chosen, chosen_freely, bound, ElaboratesEach, nothing, one_more}
-use Rattle.txs_typing.specs.Offends.{Offence, KeepsNeed, keeps_need_step, earlier, later, IsMiscalled, OffendsAt, Offends, Shows, stands, as_typed, as_anything, unknown_name, unknown_call, wrong_number, other_type, from_nowhere, argument, stray_argument, negated as side_negated, left, right, earlier_side, later_side, grouped as inside_grouped, condition, then_branch, else_branch, else_like_then, bound_value, body}
+use Rattle.txs_typing.specs.Elaborates.{right_first, Operator, Comparison, Makes, function_made, value_made, constructor_made, test_made, selector_made, not_made, to_string_made, len_made, at_made, Elaborates, number, quoted, name, call, negated, operated, compared, compared_back, grouped, chosen, chosen_freely, bound, unbound, ElaboratesEach, nothing, one_more}
+use Rattle.txs_typing.specs.Offends.{Offence, KeepsNeed, keeps_need_step, earlier, later, IsMiscalled, OffendsAt, Offends, Shows, stands, as_typed, as_anything, unknown_name, unknown_call, wrong_number, other_type, from_nowhere, argument, stray_argument, negated as side_negated, left, right, earlier_side, later_side, grouped as inside_grouped, condition, then_branch, else_branch, else_like_then, bound_value, after_value, body}
 use Rattle.txs_typing.proofs.trees.Folds.{fold_group, fold_if, fold_let}
 use Rattle.txs_typing.proofs.trees.Unique.{some_injective, same_operator, no_operator, layer, at_form, Layer, l_call, of_number, of_quoted, of_name, of_negated, of_operated, of_compared, of_back, unique, unique_each}
 
@@ -22,7 +23,7 @@ pub none≢some : {A : Type 0} {a : A} → None ≡ Some a → ⊥
 none≢some p = true≢false (sym (ap is_there p))
 
 -- what offends in a tree, by its outermost form, besides its type
-data Offending (scope : Scope) : Option Ty → Ast-F Ast → Type 0 where
+data Offending (scope : Scope) : Option Ty → Ast-F Ast Binding → Type 0 where
   f_name : {want : Option Ty} (x : Name) → meaning scope x.text ≡ None → Offending scope want (Ast-F.Name x)
   f_call : {want : Option Ty} (x : Name) (args : List Ast) → called scope x.text ≡ None → Offending scope want (Ast-F.Call x args)
   f_number : {want : Option Ty} (x : Name) (args : List Ast) (m : Meaning) (needs : List (Option Ty)) → called scope x.text ≡ Some (m, needs)
@@ -45,11 +46,13 @@ data Offending (scope : Scope) : Option Ty → Ast-F Ast → Type 0 where
   f_then : {want : Option Ty} (at : ℕ) (p a b : Ast) (o : Offence) → Offends scope want a o → Offending scope want (Ast-F.If at p a b)
   f_else : (t : Ty) (at : ℕ) (p a b : Ast) (o : Offence) → Offends scope (Some t) b o → Offending scope (Some t) (Ast-F.If at p a b)
   f_like_then : (s : Ty) (at : ℕ) (p a b : Ast) (o : Offence) → Shows scope a s → Offends scope (Some s) b o → Offending scope None (Ast-F.If at p a b)
-  f_value : {want : Option Ty} (at : ℕ) (x : Name) (a b : Ast) (o : Offence) → Offends scope None a o → Offending scope want (Ast-F.Let at x a b)
-  f_body : {want : Option Ty} (at : ℕ) (x : Name) (a b : Ast) (o : Offence) (s : Ty) → Shows scope a s → Offends (inside scope x.text s) want b o
-      → Offending scope want (Ast-F.Let at x a b)
+  f_value : {want : Option Ty} (at : ℕ) (b : Binding) (bs : List Binding) (c : Ast) (o : Offence) → Offends scope None b.value o
+      → Offending scope want (Ast-F.Let at (b ∷ bs) c)
+  f_after : {want : Option Ty} (at : ℕ) (b : Binding) (bs : List Binding) (c : Ast) (o : Offence) (s : Ty) → Shows scope b.value s
+      → Offends (inside scope b.name.text s) want (tree.Let at bs c) o → Offending scope want (Ast-F.Let at (b ∷ bs) c)
+  f_body : {want : Option Ty} (at : ℕ) (c : Ast) (o : Offence) → Offends scope want c o → Offending scope want (Ast-F.Let at [] c)
 
-off_form : {scope : Scope} {want : Option Ty} {l m : Ast-F Ast} → m ≡ l → Offending scope want l → Offending scope want m
+off_form : {scope : Scope} {want : Option Ty} {l m : Ast-F Ast Binding} → m ≡ l → Offending scope want l → Offending scope want m
 off_form {scope = scope} {want = want} p d = subst (Offending scope want) (sym p) d
 
 -- the tree is of another type than the needed one
@@ -76,8 +79,9 @@ split (condition {i = at} p a b {o = o} w) = inl (off_form (tree.outs-If at p a 
 split (then_branch {i = at} p a b {o = o} w) = inl (off_form (tree.outs-If at p a b) (f_then at p a b o w))
 split (else_branch {t = t} {i = at} p a b {o = o} w) = inl (off_form (tree.outs-If at p a b) (f_else t at p a b o w))
 split (else_like_then {s = s} {i = at} p a b {o = o} h w) = inl (off_form (tree.outs-If at p a b) (f_like_then s at p a b o h w))
-split (bound_value {l = at} {x = x} a b {o = o} w) = inl (off_form (tree.outs-Let at x a b) (f_value at x a b o w))
-split (body {l = at} {x = x} a b {o = o} {s = s} h w) = inl (off_form (tree.outs-Let at x a b) (f_body at x a b o s h w))
+split (bound_value {l = at} b bs c {o = o} w) = inl (off_form (tree.outs-Let at (b ∷ bs) c) (f_value at b bs c o w))
+split (after_value {l = at} b bs c {o = o} {s = s} h w) = inl (off_form (tree.outs-Let at (b ∷ bs) c) (f_after at b bs c o s h w))
+split (body {l = at} c {o = o} w) = inl (off_form (tree.outs-Let at [] c) (f_body at c o w))
 
 -- ---- the type of a tree that keeps the need
 
@@ -106,8 +110,8 @@ group_is_part at a w = true≢false (sym w ∙ fold_group Bool keeps_need_step a
 if_is_part : (at : ℕ) (p a b : Ast) → KeepsNeed (tree.If at p a b) → ⊥
 if_is_part at p a b w = true≢false (sym w ∙ fold_if Bool keeps_need_step at p a b)
 
-let_is_part : (at : ℕ) (x : Name) (a b : Ast) → KeepsNeed (tree.Let at x a b) → ⊥
-let_is_part at x a b w = true≢false (sym w ∙ fold_let Bool keeps_need_step at x a b)
+let_is_part : (at : ℕ) (bs : List Binding) (c : Ast) → KeepsNeed (tree.Let at bs c) → ⊥
+let_is_part at bs c w = true≢false (sym w ∙ fold_let Bool keeps_need_step at bs c)
 
 -- it is the same, whether one is needed or not
 same_type : {scope : Scope} {want : Option Ty} {a : Ast} {e f : Expr} {s t : Ty} → Elaborates scope None a e s → KeepsNeed a → Elaborates scope want a f t → s ≡ t
@@ -124,7 +128,8 @@ same_type (compared_back {o = o} a b c h d1 d2 p) w z =
     (of_back c h (λ f t y. unique d1 y) (λ f t y. unique d2 y) (at_form (sym (tree.outs-Binary o a b)) (layer z))).1
 same_type (grouped {at = at} a d) w z = absurd (group_is_part at a w)
 same_type (chosen_freely {at = at} p a b d1 d2 d3) w z = absurd (if_is_part at p a b w)
-same_type (bound {at = at} {x = x} a b d1 d2) w z = absurd (let_is_part at x a b w)
+same_type (bound {at = at} b bs c d1 d2) w z = absurd (let_is_part at (b ∷ bs) c w)
+same_type (unbound {at = at} c d) w z = absurd (let_is_part at [] c w)
 
 -- and it stands where it is needed
 suits : {scope : Scope} {t : Ty} {a : Ast} {e : Expr} {s : Ty} → Elaborates scope (Some t) a e s → KeepsNeed a → Fits scope t s
@@ -138,7 +143,8 @@ suits (compared a b c h d1 d2 p) w = p
 suits (compared_back a b c h d1 d2 p) w = p
 suits (grouped {at = at} a d) w = absurd (group_is_part at a w)
 suits (chosen {at = at} p a b d1 d2 d3) w = absurd (if_is_part at p a b w)
-suits (bound {at = at} {x = x} a b d1 d2) w = absurd (let_is_part at x a b w)
+suits (bound {at = at} b bs c d1 d2) w = absurd (let_is_part at (b ∷ bs) c w)
+suits (unbound {at = at} c d) w = absurd (let_is_part at [] c w)
 
 no_other : {scope : Scope} (want : Option Ty) {a : Ast} {e : Expr} {s : Ty} → Elaborates scope want a e s → Other scope want a → ⊥
 no_other None d q = q
@@ -230,11 +236,14 @@ no_freely none_p none_a only none_b (f_then at p a b o w) = clean none_a w
 no_freely {scope = scope} none_p none_a only none_b (f_like_then s at p a b o h w) =
     clean none_b (subst (λ n. Offends scope (Some n) b o) (sym (only s h)) w)
 
-no_bound : {scope : Scope} {want : Option Ty} {at : ℕ} {x : Name} {a b : Ast} {s : Ty} → Clean scope None a → ShowsOnly scope a s
-    → Clean (inside scope x.text s) want b → Offending scope want (Ast-F.Let at x a b) → ⊥
-no_bound none_a only none_b (f_value at x a b o w) = clean none_a w
-no_bound {scope = scope} {want = want} none_a only none_b (f_body at x a b o s' h w) =
-    clean none_b (subst (λ n. Offends (inside scope x.text n) want b o) (sym (only s' h)) w)
+no_bound : {scope : Scope} {want : Option Ty} {at : ℕ} {b : Binding} {bs : List Binding} {c : Ast} {s : Ty} → Clean scope None b.value → ShowsOnly scope b.value s
+    → Clean (inside scope b.name.text s) want (tree.Let at bs c) → Offending scope want (Ast-F.Let at (b ∷ bs) c) → ⊥
+no_bound none_a only none_b (f_value at b bs c o w) = clean none_a w
+no_bound {scope = scope} {want = want} none_a only none_b (f_after at b bs c o s' h w) =
+    clean none_b (subst (λ n. Offends (inside scope b.name.text n) want (tree.Let at bs c) o) (sym (only s' h)) w)
+
+no_unbound : {scope : Scope} {want : Option Ty} {at : ℕ} {c : Ast} → Clean scope want c → Offending scope want (Ast-F.Let at [] c) → ⊥
+no_unbound none (f_body at c o w) = clean none w
 
 -- the sides of a comparison in the order in which they are typed
 cleaned : {scope : Scope} {want : Option Ty} (a b : Ast) {r : Bool} → r ≡ right_first a b → Clean scope want (cond r b a) → Clean scope want (earlier a b)
@@ -272,8 +281,9 @@ mutual
       apart (chosen p a b d1 d2 d3) (λ f. no_chosen (never d1) (never d2) (never d3) (off_form (sym (tree.outs-If at p a b)) f))
   never (chosen_freely {at = at} p a b d1 d2 d3) =
       apart (chosen_freely p a b d1 d2 d3) (λ f. no_freely (never d1) (never d2) (shown d2 (never d2)) (never d3) (off_form (sym (tree.outs-If at p a b)) f))
-  never (bound {at = at} {x = x} a b d1 d2) =
-      apart (bound a b d1 d2) (λ f. no_bound (never d1) (shown d1 (never d1)) (never d2) (off_form (sym (tree.outs-Let at x a b)) f))
+  never (bound {at = at} b bs c d1 d2) =
+      apart (bound b bs c d1 d2) (λ f. no_bound (never d1) (shown d1 (never d1)) (never d2) (off_form (sym (tree.outs-Let at (b ∷ bs) c)) f))
+  never (unbound {at = at} c d) = apart (unbound c d) (λ f. no_unbound (never d) (off_form (sym (tree.outs-Let at [] c)) f))
 
   pub never_each : {scope : Scope} {needs : List (Option Ty)} {args : List Ast} {es : List Expr} → ElaboratesEach scope needs args es → CleanEach scope needs args
   never_each nothing = λ i a need g g'. absurd (none≢some g)

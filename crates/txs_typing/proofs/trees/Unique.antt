@@ -1,15 +1,16 @@
 -- A tree means one expression, of one type.
-use Rattle.std.proofs.Common.{◌≡◌, ℕ, ℤ, true, false, ap, sym, subst, ◌∙◌, List, ◌∷◌, Option, Some, None, refl, true≢false}
+use Rattle.std.proofs.Common.{◌≡◌, ℕ, ℤ, true, false, ap, sym, subst, ◌∙◌, List, [], ◌∷◌, Option, Some, None, refl, true≢false}
 use Rattle.txs_values.specs.Value.{Ty, integer, truth, string, num, text}
 use Rattle.txs_terms.specs.Expr.{Expr, val, one, negate, choose, let_in}
 use Rattle.txs_syntax.specs.declared.ast.Op.{Op}
 use Rattle.txs_syntax.specs.declared.ast.Name.{Name}
 use Rattle.txs_syntax.specs.declared.ast.Ast.{Ast, out-Ast}
+use Rattle.txs_syntax.specs.declared.ast.Binding.{Binding}
 use Rattle.txs_syntax.specs.declared.ast.Ast.TheVariants as tree
 use Rattle.txs_syntax.specs.declared.ast.Ast.TheOpen.{Ast-F}
 use Rattle.txs_typing.specs.Names.{Scope, Meaning, inside, called, meaning}
 use Rattle.txs_typing.proofs.Laws.{ElaborationIsUnique}
-use Rattle.txs_typing.specs.Elaborates.{right_first, Operator, or_operator, and_operator, less_operator, at_most_operator, more_operator, at_least_operator, join_operator, plus_operator, minus_operator, times_operator, divide_operator, remainder_operator, Comparison, equal_comparison, different_comparison, Makes, function_made, value_made, constructor_made, test_made, selector_made, not_made, to_string_made, from_string_made, len_made, at_made, Elaborates, number, quoted, name, call, negated, operated, compared, compared_back, grouped, chosen, chosen_freely, bound, ElaboratesEach, nothing, one_more}
+use Rattle.txs_typing.specs.Elaborates.{right_first, Operator, or_operator, and_operator, less_operator, at_most_operator, more_operator, at_least_operator, join_operator, plus_operator, minus_operator, times_operator, divide_operator, remainder_operator, Comparison, equal_comparison, different_comparison, Makes, function_made, value_made, constructor_made, test_made, selector_made, not_made, to_string_made, from_string_made, len_made, at_made, Elaborates, number, quoted, name, call, negated, operated, compared, compared_back, grouped, chosen, chosen_freely, bound, unbound, ElaboratesEach, nothing, one_more}
 
 abbrev from_some : {A : Type 0} → A → Option A → A
 from_some a None = a
@@ -56,7 +57,7 @@ pub made_of : {A B C : Type 0} {m m' : A → B → C} {a a' : A} {b b' : B} → 
 made_of {m' = m'} {a = a} {a' = a'} {b = b} p q r = ap (λ m. m a b) p ∙ (ap (λ x. m' x b) q ∙ ap (m' a') r)
 
 -- what the derivation of a tree is made of, by the tree's outermost form
-pub data Layer (scope : Scope) : Option Ty → Ast-F Ast → Expr → Ty → Type 0 where
+pub data Layer (scope : Scope) : Option Ty → Ast-F Ast Binding → Expr → Ty → Type 0 where
   l_number : {want : Option Ty} (at : ℕ) (n : ℤ) → Layer scope want (Ast-F.Number at n) (val (num n)) integer
   l_quoted : {want : Option Ty} (at : ℕ) (s : List ℕ) → Layer scope want (Ast-F.Text at s) (val (text s)) string
   l_name : {want : Option Ty} (x : Name) (e : Expr) (t : Ty) → meaning scope x.text ≡ Some (e, t) → Layer scope want (Ast-F.Name x) e t
@@ -75,10 +76,11 @@ pub data Layer (scope : Scope) : Option Ty → Ast-F Ast → Expr → Ty → Typ
       → Elaborates scope (Some t) a e r → Elaborates scope (Some t) b f s → Layer scope (Some t) (Ast-F.If at p a b) (choose c e f) t
   l_freely : (at : ℕ) (p a b : Ast) (c e f : Expr) (q s t : Ty) → Elaborates scope (Some truth) p c q
       → Elaborates scope None a e t → Elaborates scope (Some t) b f s → Layer scope None (Ast-F.If at p a b) (choose c e f) t
-  l_bound : {want : Option Ty} (at : ℕ) (x : Name) (a b : Ast) (e f : Expr) (s t : Ty) → Elaborates scope None a e s
-      → Elaborates (inside scope x.text s) want b f t → Layer scope want (Ast-F.Let at x a b) (let_in x.text e f) t
+  l_bound : {want : Option Ty} (at : ℕ) (b : Binding) (bs : List Binding) (c : Ast) (e f : Expr) (s t : Ty) → Elaborates scope None b.value e s
+      → Elaborates (inside scope b.name.text s) want (tree.Let at bs c) f t → Layer scope want (Ast-F.Let at (b ∷ bs) c) (let_in b.name.text e f) t
+  l_unbound : {want : Option Ty} (at : ℕ) (c : Ast) (e : Expr) (t : Ty) → Elaborates scope want c e t → Layer scope want (Ast-F.Let at [] c) e t
 
-pub at_form : {scope : Scope} {want : Option Ty} {e : Expr} {t : Ty} {l m : Ast-F Ast} → m ≡ l → Layer scope want l e t → Layer scope want m e t
+pub at_form : {scope : Scope} {want : Option Ty} {e : Expr} {t : Ty} {l m : Ast-F Ast Binding} → m ≡ l → Layer scope want l e t → Layer scope want m e t
 at_form {scope = scope} {want = want} {e = e} {t = t} p d = subst (λ l. Layer scope want l e t) (sym p) d
 
 pub layer : {scope : Scope} {want : Option Ty} {a : Ast} {e : Expr} {t : Ty} → Elaborates scope want a e t → Layer scope want (out-Ast a) e t
@@ -97,7 +99,8 @@ layer (chosen {at = at} p a b {c = c} {e = e} {f = f} {q = q} {r = r} {s = s} {t
     at_form (tree.outs-If at p a b) (l_chosen at p a b c e f q r s t d1 d2 d3)
 layer (chosen_freely {at = at} p a b {c = c} {e = e} {f = f} {q = q} {s = s} {t = t} d1 d2 d3) =
     at_form (tree.outs-If at p a b) (l_freely at p a b c e f q s t d1 d2 d3)
-layer (bound {at = at} {x = y} a b {e = e} {f = f} {s = s} {t = t} d1 d2) = at_form (tree.outs-Let at y a b) (l_bound at y a b e f s t d1 d2)
+layer (bound {at = at} b bs c {e = e} {f = f} {s = s} {t = t} d1 d2) = at_form (tree.outs-Let at (b ∷ bs) c) (l_bound at b bs c e f s t d1 d2)
+layer (unbound {at = at} c {e = e} {t = t} d) = at_form (tree.outs-Let at [] c) (l_unbound at c e t d)
 
 -- what else the tree means is the same
 abbrev pub Same : Scope → Option Ty → Ast → Expr → Ty → Type 0
@@ -172,12 +175,16 @@ of_freely {scope = scope} {e = e} {f = f} one_p one_a one_b (l_freely at p a b c
       yes.1,
     )
 
-of_bound : {scope : Scope} {want : Option Ty} {at : ℕ} {x : Name} {a b : Ast} {e f g : Expr} {s t u : Ty} → Same scope None a e s
-    → Same (inside scope x.text s) want b f t → Layer scope want (Ast-F.Let at x a b) g u → (let_in x.text e f ≡ g) × (t ≡ u)
-of_bound {scope = scope} {want = want} one_a one_b (l_bound at x a b e' f' s' u d1 d2) =
+of_bound : {scope : Scope} {want : Option Ty} {at : ℕ} {b : Binding} {bs : List Binding} {c : Ast} {e f g : Expr} {s t u : Ty} → Same scope None b.value e s
+    → Same (inside scope b.name.text s) want (tree.Let at bs c) f t → Layer scope want (Ast-F.Let at (b ∷ bs) c) g u → (let_in b.name.text e f ≡ g) × (t ≡ u)
+of_bound {scope = scope} {want = want} one_a one_b (l_bound at b bs c e' f' s' u d1 d2) =
     let value = one_a e' s' d1 in
-    let body = one_b f' u (subst (λ n. Elaborates (inside scope x.text n) want b f' u) (sym value.1) d2) in
-    (made_of {m = let_in x.text} refl value.0 body.0, body.1)
+    let rest = one_b f' u (subst (λ n. Elaborates (inside scope b.name.text n) want (tree.Let at bs c) f' u) (sym value.1) d2) in
+    (made_of {m = let_in b.name.text} refl value.0 rest.0, rest.1)
+
+of_unbound : {scope : Scope} {want : Option Ty} {at : ℕ} {c : Ast} {e f : Expr} {s t : Ty} → Same scope want c e s
+    → Layer scope want (Ast-F.Let at [] c) f t → (e ≡ f) × (s ≡ t)
+of_unbound same (l_unbound at c f t d) = same f t d
 
 mutual
   pub unique : {scope : Scope} {want : Option Ty} {a : Ast} {e f : Expr} {s t : Ty}
@@ -195,7 +202,8 @@ mutual
       of_chosen (λ f t y. unique d1 y) (λ f t y. unique d2 y) (λ f t y. unique d3 y) (at_form (sym (tree.outs-If at p a b)) (layer z))
   unique (chosen_freely {at = at} p a b d1 d2 d3) z =
       of_freely (λ f t y. unique d1 y) (λ f t y. unique d2 y) (λ f t y. unique d3 y) (at_form (sym (tree.outs-If at p a b)) (layer z))
-  unique (bound {at = at} {x = x} a b d1 d2) z = of_bound (λ f t y. unique d1 y) (λ f t y. unique d2 y) (at_form (sym (tree.outs-Let at x a b)) (layer z))
+  unique (bound {at = at} b bs c d1 d2) z = of_bound (λ f t y. unique d1 y) (λ f t y. unique d2 y) (at_form (sym (tree.outs-Let at (b ∷ bs) c)) (layer z))
+  unique (unbound {at = at} c d) z = of_unbound (λ f t y. unique d y) (at_form (sym (tree.outs-Let at [] c)) (layer z))
 
   pub unique_each : {scope : Scope} {wants : List (Option Ty)} {args : List Ast} {es fs : List Expr}
       → ElaboratesEach scope wants args es → ElaboratesEach scope wants args fs → es ≡ fs

@@ -7,14 +7,13 @@ use Rattle.txs_terms.specs.View.{gathered}
 use Rattle.txs_terms.specs.Typed.{IsType, AreTypes, negate_of, negation_of, to_text_of, from_text_of, len_of, made_by_of, select_of, plus_of, minus_of, times_of, divide_of, remainder_of, concat_of, differ_of, less_of, at_most_of, more_of, at_least_of, char_of, Of, val_of, slot_of, local_of, constant_of, one_of, two_of, equal_of, both_of, either_of, choose_of, apply_of, build_of, let_of, Ofs, none_of, more_of'}
 use Rattle.txs_terms.specs.Defs.{Definitions, signatures_of}
 use Rattle.txs_syntax.specs.declared.ast.Op.{Op}
-use Rattle.txs_syntax.specs.declared.ast.Name.{Name}
 use Rattle.txs_syntax.specs.declared.ast.Ast.{Ast}
+use Rattle.txs_syntax.specs.declared.ast.Binding.{Binding}
 use Rattle.txs_syntax.specs.declared.ast.Ast.TheVariants as tree
-use Rattle.txs_syntax.specs.declared.ast.Ast.TheFolds.{fold-Ast}
 use Rattle.txs_typing.specs.Names.{Variable, Scope, Meaning, named_value, named_constant, named_function, named_constructor, named_test, named_selector, named_not, named_to_string, named_from_string, named_len, named_at, IsUnknown, scope_over, inside, last_of, global_of, alone, global_alone, slot_or_global, needed, takes, called, meaning}
 use Rattle.txs_typing.proofs.Laws.{ElaboratedIsTyped, HasTypes}
 use Rattle.txs_typing.specs.Answer.{IsNeed}
-use Rattle.txs_typing.specs.Elaborates.{Suits, Operator, or_operator, and_operator, less_operator, at_most_operator, more_operator, at_least_operator, join_operator, plus_operator, minus_operator, times_operator, divide_operator, remainder_operator, Comparison, equal_comparison, different_comparison, Makes, function_made, value_made, constructor_made, test_made, selector_made, not_made, to_string_made, from_string_made, len_made, at_made, Elaborates, number, quoted, name, call, negated, operated, compared, compared_back, grouped, chosen, chosen_freely, bound, ElaboratesEach, nothing, one_more, all_true, ints_step, HasInts}
+use Rattle.txs_typing.specs.Elaborates.{folded, Suits, Operator, or_operator, and_operator, less_operator, at_most_operator, more_operator, at_least_operator, join_operator, plus_operator, minus_operator, times_operator, divide_operator, remainder_operator, Comparison, equal_comparison, different_comparison, Makes, function_made, value_made, constructor_made, test_made, selector_made, not_made, to_string_made, from_string_made, len_made, at_made, Elaborates, number, quoted, name, call, negated, operated, compared, compared_back, grouped, chosen, chosen_freely, bound, unbound, ElaboratesEach, nothing, one_more, all_true, ints_step, HasInts}
 use Rattle.txs_typing.proofs.trees.Folds.{fold_number, fold_call, fold_negate, fold_binary, fold_group, fold_if, fold_let}
 use Rattle.txs_typing.proofs.trees.Globals.{Good, AreGood, good_found, good_globals, type_at, variable_at}
 
@@ -239,7 +238,7 @@ comparison_typed d scope e f s different_comparison p q = two_of (differ_of s) p
 -- ---- numbers in range
 
 abbrev pub ints : Ast → Bool
-ints = fold-Ast Bool ints_step
+ints = folded Bool ints_step
 
 ints_negate : (at : ℕ) (a : Ast) → HasInts (tree.Negate at a) → HasInts a
 ints_negate at a h = sym (fold_negate Bool ints_step at a) ∙ h
@@ -255,8 +254,19 @@ ints_if at p a b h =
     let first = and_parts (ints p) (ints a && ints b) (sym (fold_if Bool ints_step at p a b) ∙ h) in
     let rest = and_parts (ints a) (ints b) first.1 in (first.0, rest.0, rest.1)
 
-ints_let : (at : ℕ) (x : Name) (a b : Ast) → HasInts (tree.Let at x a b) → HasInts a × HasInts b
-ints_let at x a b h = and_parts (ints a) (ints b) (sym (fold_let Bool ints_step at x a b) ∙ h)
+abbrev values_have : List Binding → Bool
+values_have bs = all_true (map (λ (b : Binding). ints b.value) bs)
+
+ints_let : (at : ℕ) (b : Binding) (bs : List Binding) (c : Ast) → HasInts (tree.Let at (b ∷ bs) c) → HasInts b.value × HasInts (tree.Let at bs c)
+ints_let at b bs c h =
+    let parts = and_parts (values_have (b ∷ bs)) (ints c) (sym (fold_let Bool ints_step at (b ∷ bs) c) ∙ h) in
+    let values = and_parts (ints b.value) (values_have bs) parts.0 in (
+      values.0,
+      fold_let Bool ints_step at bs c ∙ (ap (λ x. x && ints c) values.1 ∙ parts.1),
+    )
+
+ints_body : (at : ℕ) (c : Ast) → HasInts (tree.Let at [] c) → HasInts c
+ints_body at c h = sym (fold_let Bool ints_step at [] c) ∙ h
 
 -- ---- trees
 
@@ -297,12 +307,13 @@ mutual
       let i = ints_if at p a b h in
       let yes = typed d d2 ok tt i.1 in
       ((choose_of (at_need d scope c truth q (typed d d1 ok tt i.0)) yes.0.0 (at_need d scope f t s (typed d d3 ok yes.0.1 i.2)), yes.0.1), tt)
-  typed d {scope = scope} (bound {at = at} {x = x} a b {e = e} {f = f} {s = s} {t = t} d1 d2) ok need h =
-      let i = ints_let at x a b h in
+  typed d (unbound {at = at} c d1) ok need h = typed d d1 ok need (ints_body at c h)
+  typed d {scope = scope} (bound {at = at} b bs c {e = e} {f = f} {s = s} {t = t} d1 d2) ok need h =
+      let i = ints_let at b bs c h in
       let value = typed d d1 ok tt i.0 in
-      let rest = typed d d2 (sound_inside d scope x.text s ok value.0.1) need i.1 in (
+      let rest = typed d d2 (sound_inside d scope b.name.text s ok value.0.1) need i.1 in (
         (
-          let_of value.0.0 (subst (λ ts. Of d.table (signatures_of d) (field_types scope.slots) ts f t) (types_after scope.locals (record { name = x.text; ty = s })) rest.0.0),
+          let_of value.0.0 (subst (λ ts. Of d.table (signatures_of d) (field_types scope.slots) ts f t) (types_after scope.locals (record { name = b.name.text; ty = s })) rest.0.0),
           rest.0.1,
         ),
         rest.1,

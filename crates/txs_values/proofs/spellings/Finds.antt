@@ -8,27 +8,27 @@ use Rattle.txs_values.specs.declared.reading.Kind.TheVariants.{Wrong, Past, Deep
 use Rattle.txs_values.specs.Value.{Ty, integer, string, named, Value, num, bool, text, cons, Values, no_value, and_value, listed, packed, Field, Table, place_of, field_types, fits, HasType, has_type, has_fields, height, heights}
 use Rattle.txs_values.specs.Ints.{number_run, past_number, has_digit}
 use Rattle.txs_values.specs.Spelling.{is_blank, is_digit, is_name_byte, is_raw, past_blanks, run_of, past_run}
-use Rattle.txs_values.specs.Spelled.{AreBlanks, AreDigits, IsSign, no_sign, minus_sign, Quotes, nothing, as_it_is, escaped_by, Spells, a_number, a_true, a_false, a_text, a_constant, a_made, SpellsEach, the_last, one_more, IsNamed}
+use Rattle.txs_values.specs.Spelled.{AreBlanks, AreDigits, IsSign, no_sign, minus_sign, Quotes, nothing, as_it_is, escaped_by, Spells, a_number, a_true, a_false, a_text, a_constant, a_made, SpellsEach, the_last, one_more, IsNamed, HasTexts, HaveTexts}
 use Rattle.txs_values.specs.Reading.{Outcome, ok, stop, after, either, with_front, symbol_here, symbol, number_read, goes_on, name_read, truth_read, escape_read, quoted_read, text_read, Reader, arguments_read, full_read, fields_read, level_read, value_read}
 use Rattle.txs_values.proofs.spellings.Bytes.{Stops, digits-each, run-append, past-append, digit-minus, stops-digit, stops-blanks, past_blanks-is}
-use Rattle.txs_values.proofs.spellings.Complete.{token-is, number-stops, name-stops, fields-typed, comma-joined, same_types, height-some}
+use Rattle.txs_values.proofs.spellings.Joined.{token-is, number-stops, name-stops, fields-typed, comma-joined, same_types, height-some}
 use Rattle.txs_values.proofs.spellings.Tokens.{name-is}
 use Rattle.txs_values.proofs.spellings.Names.{made-is}
 
--- stopped by a limit, and not behind what is spelled; a text that is not UTF-8 is the only limit where all is fine
+-- stopped by a limit, and not behind what is spelled; there is none where all is fine
 pub record Limit {A : Type 0} (Fine : Type 0) (o : Outcome A) (r : List ℕ) : Type 0 where
   pub kind : Kind
   pub count : ℕ
   pub stops : o ≡ stop kind count
   pub right : kind ≡ Wrong → ⊥
   pub within : length r ≤ count
-  pub broken : Fine → kind ≡ Broken
+  pub broken : Fine → ⊥
 
 abbrev pub Ends : {A : Type 0} → Type 0 → Outcome A → A → List ℕ → Type 0
 Ends Fine o a r = (o ≡ ok a r) ⊎ Limit Fine o r
 
 abbrev pub Fine : Table → ℕ → Ty → Value → Type 0
-Fine table left u v = HasType table v u × (height v ≤ suc left)
+Fine table left u v = HasType table v u × (height v ≤ suc left) × HasTexts v
 
 abbrev pub Complete : Table → ℕ → Reader → Type 0
 Complete table left below = (u : Ty) (v : Value) (ws rest : List ℕ) → Spells table u v ws → Stops is_name_byte rest → Ends (Fine table left u v) (below u (ws ++ rest)) v rest
@@ -84,7 +84,7 @@ number-if table left bs run rest p true e = inl refl
 number-if table left bs run rest p false e =
     let n : length bs ≡ length (run ++ rest) = ap length p in
     let m = length-append run rest in
-    inr (record { kind = Past; count = length bs; stops = refl; right = λ h. cc; within = omega (arith, n, m); broken = λ fine. let h : fits (signed_digits_value 10 run) ≡ true = fine.0 in absurd (cc) })
+    inr (record { kind = Past; count = length bs; stops = refl; right = λ h. cc; within = omega (arith, n, m); broken = λ fine. let h : fits (signed_digits_value 10 run) ≡ true = fine.0 in cc })
 
 number-ends : (table : Table) (left : ℕ) {sign : List ℕ} → IsSign sign → (d : ℕ) (ds rest : List ℕ) → AreDigits (d ∷ ds) → Stops is_name_byte rest
     → Ends (Fine table left integer (num (signed_digits_value 10 (sign ++ d ∷ ds)))) (number_read ((sign ++ d ∷ ds) ++ rest)) (num (signed_digits_value 10 (sign ++ d ∷ ds))) rest
@@ -112,18 +112,18 @@ quoted-is (as_it_is {bs = a} {ws = ws} b x y z q) rest =
 quoted-is (escaped_by {bs = a} {ws = ws} b c e q) rest =
     ap (λ o. escape_read o (length (c ∷ (ws ++ 34 ∷ rest))) (quoted_read false (ws ++ 34 ∷ rest))) e ∙ ap (with_front (b ∷ [])) (quoted-is q rest)
 
-text-if : (F : Type 0) (a bs rest : List ℕ) → length rest ≤ length bs → (t : Bool) → Ends F (cond t (ok (text a) rest) (stop Broken (length bs))) (text a) rest
-text-if F a bs rest l true = inl refl
-text-if F a bs rest l false = inr (record { kind = Broken; count = length bs; stops = refl; right = λ h. cc; within = l; broken = λ _. refl })
+text-if : (F : Type 0) (a bs rest : List ℕ) → length rest ≤ length bs → (t : Bool) → (F → t ≡ true) → Ends F (cond t (ok (text a) rest) (stop Broken (length bs))) (text a) rest
+text-if F a bs rest l true u = inl refl
+text-if F a bs rest l false u = inr (record { kind = Broken; count = length bs; stops = refl; right = λ h. cc; within = l; broken = λ f. let e = u f in cc })
 
-text-ends : (F : Type 0) (a ws rest : List ℕ) → Quotes a ws → Ends F (text_read ((34 ∷ (ws ++ 34 ∷ [])) ++ rest)) (text a) rest
-text-ends F a ws rest q =
+text-ends : (F : Type 0) (a ws rest : List ℕ) → (F → is_utf8 a ≡ true) → Quotes a ws → Ends F (text_read ((34 ∷ (ws ++ 34 ∷ [])) ++ rest)) (text a) rest
+text-ends F a ws rest u q =
     let bs : List ℕ = (34 ∷ (ws ++ 34 ∷ [])) ++ rest in
     let n = length-append (34 ∷ (ws ++ 34 ∷ [])) rest in
     ends-same (cond (is_utf8 a) (ok (text a) rest) (stop Broken (length bs))) (text_read bs) (text a) rest
     (ap (λ l. after (quoted_read false l) (λ t end. cond (is_utf8 t) (ok (text t) end) (stop Broken (length bs)))) (append_assoc ws (34 ∷ []) rest)
     ∙ ap (λ o. after o (λ t end. cond (is_utf8 t) (ok (text t) end) (stop Broken (length bs)))) (quoted-is q rest))
-    (text-if F a bs rest (omega (arith, n)) (is_utf8 a))
+    (text-if F a bs rest (omega (arith, n)) (is_utf8 a) u)
 
 -- ---- arguments
 
@@ -135,7 +135,7 @@ packed-listed no_value = refl
 packed-listed (and_value v vs) = ap (and_value v) (packed-listed vs)
 
 abbrev FineEach : Table → ℕ → List Ty → Values → Type 0
-FineEach table left ts vs = (has_fields table vs (Some ts) ≡ true) × (heights vs ≤ suc left)
+FineEach table left ts vs = (has_fields table vs (Some ts) ≡ true) × (heights vs ≤ suc left) × HaveTexts vs
 
 pub length-behind : (x : List ℕ) (c : ℕ) (r : List ℕ) → length r ≤ length (x ++ c ∷ r)
 length-behind x c r = let n = length-append x (c ∷ r) in omega (arith, n)
@@ -147,7 +147,7 @@ module _ (table : Table) (left : ℕ) (below : Reader) (complete : Complete tabl
       inl (ap (λ o. after o (λ v r. after (symbol 41 r) (λ _ more. with_front (v ∷ []) (ok [] more)))) e ∙ ap (λ o. after o (λ _ more. with_front (v ∷ []) (ok [] more))) (symbol-is 41 behind rest ab refl))
   then-last f v bs behind rest ab (inr l) =
       inr (limit-after (below f.ty bs) (λ v r. after (symbol 41 r) (λ _ more. with_front (v ∷ []) (ok [] more))) (behind ++ 41 ∷ rest) rest l
-      (λ g. let h = g.1 in ((and_parts (has_type table v f.ty) true g.0).0, omega (arith, h))) (length-behind behind 41 rest))
+      (λ g. let h = g.1 in ((and_parts (has_type table v f.ty) true g.0).0, omega (arith, h), g.2.0)) (length-behind behind 41 rest))
 
   front-ends : {F G : Type 0} (v : Value) (o : Outcome (List Value)) (vs : List Value) (r : List ℕ) → (G → F) → Ends F o vs r → Ends G (with_front (v ∷ []) o) (v ∷ vs) r
   front-ends v o vs r f (inl e) = inl (ap (with_front (v ∷ [])) e)
@@ -162,11 +162,11 @@ module _ (table : Table) (left : ℕ) (below : Reader) (complete : Complete tabl
       ends-same (with_front (v ∷ []) (arguments_read below (g ∷ fs) tail)) (arguments_read below (f ∷ g ∷ fs) bs) (v ∷ listed vs) rest
       (ap (λ o. after o (λ v r. after (symbol 44 r) (λ _ more. with_front (v ∷ []) (arguments_read below (g ∷ fs) more)))) e ∙ ap (λ o. after o (λ _ more. with_front (v ∷ []) (arguments_read below (g ∷ fs) more))) (symbol-is 44 before tail ab refl))
       (front-ends v (arguments_read below (g ∷ fs) tail) (listed vs) rest
-      (λ h. let k = h.1 in ((and_parts (has_type table v f.ty) (has_fields table vs (Some (field_types (g ∷ fs)))) h.0).1, omega (arith, k))) others)
+      (λ h. let k = h.1 in ((and_parts (has_type table v f.ty) (has_fields table vs (Some (field_types (g ∷ fs)))) h.0).1, omega (arith, k), h.2.1)) others)
   then-more f g fs v vs bs before tail rest ab l (inr x) others =
       let n = length-behind before 44 tail in
       inr (limit-after (below f.ty bs) (λ v r. after (symbol 44 r) (λ _ more. with_front (v ∷ []) (arguments_read below (g ∷ fs) more))) (before ++ 44 ∷ tail) rest x
-      (λ h. let k = h.1 in ((and_parts (has_type table v f.ty) (has_fields table vs (Some (field_types (g ∷ fs)))) h.0).0, omega (arith, k))) (omega (arith, l, n)))
+      (λ h. let k = h.1 in ((and_parts (has_type table v f.ty) (has_fields table vs (Some (field_types (g ∷ fs)))) h.0).0, omega (arith, k), h.2.0)) (omega (arith, l, n)))
 
   pub arguments-end : {ts : List Ty} {vs : Values} {ws : List ℕ} → SpellsEach table ts vs ws → (f : Field) (fs : List Field) → ts ≡ field_types (f ∷ fs) → (behind rest : List ℕ) → AreBlanks behind
       → Ends (FineEach table left (field_types (f ∷ fs)) vs) (arguments_read below (f ∷ fs) (ws ++ (behind ++ 41 ∷ rest))) (listed vs) rest
@@ -210,7 +210,7 @@ module _ (table : Table) (is_named : IsNamed table) (left : ℕ) where
         stops = ap full_read (past_blanks-is before (40 ∷ tail) bb refl);
         right = λ h. cc;
         within = omega (arith, n, m);
-        broken = λ fine. let h = fine.1 in let p = some-high each in absurd (omega (arith, h, p, z));
+        broken = λ fine. let h = fine.1 in let p = some-high each in omega (arith, h, p, z);
       })
   fields-end (Some below) u c k name f fs vs before ws behind rest bb hb e each =
       let tail : List ℕ = ws ++ (behind ++ 41 ∷ rest) in
@@ -223,7 +223,7 @@ module _ (table : Table) (is_named : IsNamed table) (left : ℕ) where
       then-made {o} (inr l) q =
           inr (limit-same (after (arguments_read below (f ∷ fs) (ws ++ (behind ++ 41 ∷ rest))) (λ vs end. ok (cons c (packed vs)) end)) o rest q
           (limit-after (arguments_read below (f ∷ fs) (ws ++ (behind ++ 41 ∷ rest))) (λ vs end. ok (cons c (packed vs)) end) rest rest l
-          (λ fine. let h = fine.1 in let v = u.1 in (fields-typed table c k name (f ∷ fs) vs e fine.0, omega (arith, h, v))) (omega arith)))
+          (λ fine. let h = fine.1 in let v = u.1 in (fields-typed table c k name (f ∷ fs) vs e fine.0, omega (arith, h, v), fine.2)) (omega arith)))
 
   pub level-ends : (below : Option Reader) → IsUnder table below left → {u : Ty} {v : Value} {ws : List ℕ} → Spells table u v ws → (rest : List ℕ) → Stops is_name_byte rest
       → Ends (Fine table left u v) (level_read table below u (past_blanks (ws ++ rest))) v rest
@@ -235,7 +235,7 @@ module _ (table : Table) (is_named : IsNamed table) (left : ℕ) where
   level-ends below under (a_false bl ab) rest s = inl (ap truth_read (token-is bl (codes "False") rest ab refl) ∙ false-is rest s)
   level-ends below under (a_text bl a ws ab q) rest s =
       let run : List ℕ = 34 ∷ (ws ++ 34 ∷ []) in
-      ends-same (text_read (run ++ rest)) (text_read (past_blanks ((bl ++ run) ++ rest))) (text a) rest (ap text_read (token-is bl run rest ab refl)) (text-ends (Fine table left string (text a)) a ws rest q)
+      ends-same (text_read (run ++ rest)) (text_read (past_blanks ((bl ++ run) ++ rest))) (text a) rest (ap text_read (token-is bl run rest ab refl)) (text-ends (Fine table left string (text a)) a ws rest (λ f. f.2) q)
   level-ends below under (a_constant bl c k name ab e) rest s =
       inl (ap (level_read table below (named k)) (token-is bl name rest ab (begins name e))
       ∙ ap (λ o. after o (λ m r. fields_read below m.number m.fields r)) (made-is table is_named c k name [] rest e (stops-goes rest s)))

@@ -14,6 +14,7 @@ use Rattle.txs_values.proofs.spellings.Found.{head, Got, Left, Found, Sound, fou
 use Rattle.txs_values.proofs.spellings.Levels.{Here, Good}
 use Rattle.txs_values.proofs.spellings.Soundness.{value-sound}
 use Rattle.txs_values.proofs.spellings.Finds.{Ends, Fine, value-ends, limit-after}
+use Rattle.txs_values.proofs.spellings.TextsIn.{read_texts}
 use Rattle.txs_values.proofs.spellings.Utf8.{unbroken}
 
 pub levels-all : 1 + levels_below ≡ value_height_limit
@@ -69,7 +70,7 @@ pub lone-read : (table : Table) (t : Ty) (bs r : List ℕ) (v : Value) → lone_
 lone-read table t bs r v e small =
     let g : Got (IsReadable table t) (lone_read table t) (Whole table t) bs v [] = subst (λ (o : Outcome Value). Found (IsReadable table t) (lone_read table t) (Whole table t) (Here table t) bs o) e (lone-sound table t bs) in
     let w = g.spelled in
-    (subst (IsSpelling table t v) (sym (g.split ∙ append-nil g.used)) w.spelling, record { typed = w.typed; small = small; low = w.low })
+    (subst (IsSpelling table t v) (sym (g.split ∙ append-nil g.used)) w.spelling, record { typed = w.typed; texts = read_texts table t bs [] v e; small = small; low = w.low })
 
 pub lone-spelled : (table : Table) (t : Ty) (bs : List ℕ) (v : Value) → lone_read table t bs ≡ ok v [] → IsSpelling table t v bs
 lone-spelled table t bs v e =
@@ -87,12 +88,12 @@ lone-unbroken table t bs k n e u b =
     unbroken l.used l.rest (subst (λ (x : List ℕ). IsUtf8 x) l.split u) l.here
 
 -- no spelling of an allowed value is stopped at
-pub lone-allowed : (table : Table) (t : Ty) → IsNamed table → (bs : List ℕ) (k : Kind) (n : ℕ) → lone_read table t bs ≡ stop k n → IsUtf8 bs → (v : Value) → IsSpelling table t v bs → IsAllowed table t v → ⊥
-lone-allowed table t named bs k n e u v s a = by (lone-ends table t named v bs s)
+pub lone-allowed : (table : Table) (t : Ty) → IsNamed table → (bs : List ℕ) (k : Kind) (n : ℕ) → lone_read table t bs ≡ stop k n → (v : Value) → IsSpelling table t v bs → IsAllowed table t v → ⊥
+lone-allowed table t named bs k n e v s a = by (lone-ends table t named v bs s)
   where
     by : Ends (Fine table levels_below t v) (lone_read table t bs) v [] → ⊥
     by (inl h) = let x : ok v [] ≡ stop k n = sym h ∙ e in cc
-    by (inr l) = let low = a.low in let top = levels-all in lone-unbroken table t bs l.kind l.count l.stops u (l.broken (a.typed, omega (arith, low, top)))
+    by (inr l) = let low = a.low in let top = levels-all in l.broken (a.typed, omega (arith, low, top), a.texts)
 
 -- two values that one text spells, of which the one is read
 pub lone-same : (table : Table) (t : Ty) → IsNamed table → (bs : List ℕ) (v w : Value) → lone_read table t bs ≡ ok v [] → IsSpelling table t w bs → v ≡ w

@@ -9,7 +9,7 @@ use Rattle.txs_values.specs.Reading.{quoted_read}
 use Rattle.txs_values.proofs.spellings.Bytes.{Stops, past_blanks-is, stops-blanks, stops-digit, stops-all}
 use Rattle.txs_values.proofs.spellings.Fronts.{same_list}
 use Rattle.txs_values.proofs.spellings.Places.{same_fields}
-use Rattle.txs_values.proofs.spellings.Complete.{number-stops, name-stops}
+use Rattle.txs_values.proofs.spellings.Joined.{number-stops, name-stops}
 use Rattle.txs_values.proofs.spellings.Names.{one-name, same_ok}
 use Rattle.txs_values.proofs.spellings.Finds.{signed-run, quoted-is, stops-goes}
 

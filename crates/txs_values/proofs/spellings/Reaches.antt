@@ -10,7 +10,7 @@ use Rattle.txs_values.specs.Spelled.{AreBlanks, IsNamed}
 use Rattle.txs_values.specs.Faults.{NoDigit, Leads, no_more, one_before, Stands, as_whole, as_argument, IsOutOfRange, IsDeep}
 use Rattle.txs_values.specs.Reading.{Outcome, ok, stop, after, with_front, symbol, number_read, Reader, mark_behind, arguments_read, full_read, enclosed_read, fields_read, level_read, value_read, levels_below, ended, lone_read}
 use Rattle.txs_values.proofs.spellings.Bytes.{Stops, stops-blanks, past_blanks-is}
-use Rattle.txs_values.proofs.spellings.Complete.{token-is, number-stops, name-stops, same_types}
+use Rattle.txs_values.proofs.spellings.Joined.{token-is, number-stops, name-stops, same_types}
 use Rattle.txs_values.proofs.spellings.Names.{made-is}
 use Rattle.txs_values.proofs.spellings.Finds.{Ends, Fine, Complete, value-ends, signed-run, number-by, symbol-is, stops-goes, length-behind}
 use Rattle.txs_values.proofs.spellings.Lone.{levels-all}

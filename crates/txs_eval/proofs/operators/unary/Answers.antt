@@ -1,7 +1,5 @@
-use Rattle.std.proofs.Common.{◌≡◌, subst, sym, slice_get}
+use Rattle.std.proofs.Common.{◌≡◌, ◌∙◌, subst, sym}
 use Rattle.txs_values.specs.declared.value.Value.TheVariants as variant
-use Rattle.txs_values.specs.View.{values_of}
-use Rattle.txs_terms.specs.Eval as spec
 use Rattle.txs_eval.specs.Answer.{Comes}
 use Rattle.txs_eval.proofs.Nodes.{selecting}
 use Rattle.txs_eval.proofs.operators.unary.Goals as goal
@@ -11,5 +9,5 @@ returns-then-constructor-id c =
     let v = c.args.value.now in
     let is = subst (λ k. v ≡ variant.Cons k c.in-Select-Cons.fields) (sym c.if-constructor-id.true) c.in-Select-Cons.is-1 in
     rw (c.in-Select-Cons.is-0)
-    (subst (Comes c.selected.result) (sym (selecting v c.in-Select-Cons.constructor c.in-Select-Cons.field c.in-Select-Cons.fields is c.args.table.now))
-    (subst (λ l. Comes c.selected.result (spec.selected (slice_get (values_of l) c.in-Select-Cons.field))) c.as_slice.ensures c.selected.ensures))
+    (subst (Comes c.selected.result)
+    (sym (selecting v c.in-Select-Cons.constructor c.in-Select-Cons.field c.in-Select-Cons.fields c.as_slice.result.now is (c.as_slice.ensures ∙ c.get.ensures) c.args.table.now)) c.selected.ensures)

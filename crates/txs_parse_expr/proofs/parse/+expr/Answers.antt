@@ -193,7 +193,7 @@ lets-returns-then-not-has_word-2-clause-value t c =
 pub lets-returns-clause-value : goal.lets-returns-clause-value
 lets-returns-clause-value t c =
     let_end (c.args.left - 1) c.args.tokens.now (drop c.args.at c.args.tokens.now) c.args.offset c.in_ok-list.next c.in_ok-list.list c.in_ok-list.ensures.value c.if-not-has_word.ensures.value
-    c.in_ok-e.next c.in_ok-e.e c.in_ok-nest.field-0 c.in_ok-e.ensures.value c.if-not-has_word-2.ensures.value c.in_ok-nest.ensures
+    c.in_ok-e.next c.in_ok-e.e c.in_ok-let_of.field-0 c.in_ok-e.ensures.value c.if-not-has_word-2.ensures.value c.in_ok-let_of.ensures
 
 pub value-returns-in_err-e-clause-value : goal.value-returns-in_err-e-clause-value
 value-returns-in_err-e-clause-value t c =
@@ -203,7 +203,7 @@ value-returns-in_err-e-clause-value t c =
 
 pub value-returns-clause-value : goal.value-returns-clause-value
 value-returns-clause-value t c =
-    value_read c.args.left c.args.tokens.now c.args.at (record { at = c.args.offset; text = c.args.text.now }) c.if-not-has_symbol.ensures.value c.in_ok-e.e c.in_ok-e.next c.in_ok-name.name c.in_ok-e.ensures.value c.in_ok-name.ensures
+    value_read c.args.left c.args.tokens.now c.args.at (record { at = c.args.offset; text = c.args.text.now }) c.if-not-has_symbol.ensures.value c.in_ok-e.e c.into_inner.result c.in_ok-e.next c.in_ok-name.name c.in_ok-e.ensures.value c.in_ok-name.ensures c.into_inner.ensures
 
 pub un-returns-in-None-clause-value : goal.un-returns-in-None-clause-value
 un-returns-in-None-clause-value t c =

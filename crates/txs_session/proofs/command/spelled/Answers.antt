@@ -2,7 +2,7 @@ use Rattle.std.proofs.Common.{[], refl, sym, FitsSigned, rules}
 use Rattle.std.specs.Int.{w128}
 use Rattle.std.proofs.lemmas.Int.{to_z-of_z}
 use Rattle.txs_values.specs.Value.{integer}
-use Rattle.txs_values.specs.Spelling.{read_text}
+use Rattle.txs_values.specs.Reading.{read_text}
 use Rattle.txs_session.proofs.Spelled.{number_of-none}
 use Rattle.txs_session.proofs.command.spelled.Goals as goal
 

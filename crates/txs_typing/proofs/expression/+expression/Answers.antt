@@ -1,4 +1,4 @@
-use Rattle.std.proofs.Common.{rules, ◌≡◌, ◌+◌, ap, sym, subst, ◌∙◌, refl, Some, None, true, false, [], length, get_or, IfOk, arith, FitsSigned}
+use Rattle.std.proofs.Common.{rules, ◌≡◌, ◌+◌, ap, sym, subst, ◌∙◌, refl, Some, None, true, false, [], length, get_or, take, ◌++◌, ◌∷◌, IfOk, OnOk, OnErr, inl, arith, FitsSigned}
 use Rattle.std.proofs.lemmas.Int.{to_z-of_z}
 use Rattle.std.proofs.lemmas.List.{length-map}
 use Rattle.std.specs.Int.{w128}
@@ -6,7 +6,11 @@ use Rattle.std.specs.Prelude.{option_map}
 use Rattle.txs_values.specs.View.{ty_of}
 use Rattle.txs_values.specs.Value.{integer, truth}
 use Rattle.txs_terms.specs.View.{exprs_of}
+use Rattle.txs_values.specs.declared.table.FieldDef as rust_field
 use Rattle.txs_syntax.specs.declared.ast.Ast.TheVariants as tree
+use Rattle.txs_syntax.specs.declared.ast.Binding.{Binding}
+use Rattle.txs_typing.specs.declared.scope.Scope as rust_scope
+use Rattle.txs_typing.specs.inner.Bindings.{IsWithin, JudgesValues}
 use Rattle.txs_typing.specs.declared.fault.TypeFault.TheVariants as fault
 use Rattle.txs_typing.specs.Names.{inside}
 use Rattle.txs_typing.specs.Elaborates.{ElaboratesEach, nothing, right_first}
@@ -18,9 +22,11 @@ use Rattle.txs_typing.specs.inner.Parts.{Means, Tells, InOrder, OffendInOrder, J
 use Rattle.txs_typing.proofs.trees.Judged.{taken}
 use Rattle.txs_typing.proofs.judging.Finish.{judges_of, tells_of}
 use Rattle.txs_typing.proofs.judging.CallNodes.{each_step, as_many_found, calls_node, unknown_node, arity_node, strays_told, strays_judged, length_strays}
-use Rattle.txs_typing.proofs.judging.Sides.{tells_both, tells_in_order, tells_sides, tells_back, negate_node, operator_node, comparison_node, group_node, if_node, if_free_node, let_node, BothMean}
-use Rattle.txs_typing.proofs.trees.Weights.{weight, weights, weight_call, weight_negate, weight_binary, weight_group, weight_if, weight_let, weight_of_one}
+use Rattle.txs_typing.proofs.judging.Sides.{tells_both, tells_in_order, tells_sides, tells_back, negate_node, operator_node, comparison_node, group_node, if_node, if_free_node, BothMean}
+use Rattle.txs_typing.proofs.judging.Bindings.{let_node, values_step, within_more, left_again}
+use Rattle.txs_typing.proofs.trees.Weights.{weight, weights, weight_call, weight_negate, weight_binary, weight_group, weight_if, weight_let, weight_of_one, weights_of, weight_of_value}
 use Rattle.txs_typing.proofs.expression.+expression.Goals as goal
+use Rattle.txs_typing.proofs.expression.+expression.Goals.{values-in-Ok, values-in-Err}
 
 pub expression-returns-clause-judged : goal.expression-returns-clause-judged
 expression-returns-clause-judged t c =
@@ -46,7 +52,7 @@ pub judge-choice-requires : goal.judge-choice-requires
 judge-choice-requires t c = (omega (arith, weight_if c.args.tree.now _ c.in-If.condition c.in-If.yes c.in-If.no c.in-If.is), tt)
 
 pub judge-binding-requires : goal.judge-binding-requires
-judge-binding-requires t c = (omega (arith, weight_let c.args.tree.now _ c.in-Let.name c.in-Let.value c.in-Let.body c.in-Let.is), tt)
+judge-binding-requires t c = (omega (arith, weight_let c.args.tree.now _ c.in-Let.bindings c.in-Let.body c.in-Let.is, ap weights_of c.as_slice-in-Let.ensures), tt)
 
 pub judge-returns-in-Number-clause-judged : goal.judge-returns-in-Number-clause-judged
 judge-returns-in-Number-clause-judged t c =
@@ -74,7 +80,9 @@ judge-returns-in-If-clause-judged t c =
 
 pub judge-returns-in-Let-clause-judged : goal.judge-returns-in-Let-clause-judged
 judge-returns-in-Let-clause-judged t c =
-    subst (λ a. JudgesAt c.args.at (scope_of c.args.scope.now) (want_of c.args.want) a c.binding.result) (sym c.in-Let.is) (c.binding.ensures.judged c.args.at _)
+    let s = scope_of c.args.scope.now in
+    subst (λ a. JudgesAt c.args.at s (want_of c.args.want) a c.binding.result) (sym c.in-Let.is)
+    (subst (λ bs. JudgesAt c.args.at s (want_of c.args.want) (tree.Let c.in-Let.at bs c.in-Let.body) c.binding.result) c.as_slice-in-Let.ensures (c.binding.ensures.judged c.args.at c.in-Let.at))
 
 -- ---- calls
 
@@ -245,17 +253,54 @@ choice-returns-in-None-clause-judged t c = λ at offset.
     (subst (λ s. Tells (InOrder (scope_of s) a b) (OffendInOrder (scope_of s) a b) c.in_order-found.result)
     c.expression-c.ensures.kept c.in_order-found.ensures.told) c.joined-in-None.ensures c.chosen-in-None.ensures)
 
-pub binding-returns-in-Ok-clause-judged : goal.binding-returns-in-Ok-clause-judged
-binding-returns-in-Ok-clause-judged t c = λ at offset.
+-- ---- bindings
+
+pub values-expression-found-requires : goal.values-expression-found-requires
+values-expression-found-requires t c =
+    (omega (arith, weight_of_value c.args.bindings.now c.loop-binding.binding-index c.binding-item.result c.loop-binding-test.true, ap (λ (b : Binding). weight b.value) c.binding-item.is), tt)
+
+pub values-loop-binding-preserved : goal.values-loop-binding-preserved
+values-loop-binding-preserved t c =
     let s = scope_of c.args.scope.now in
+    let bs = c.args.bindings.now in
+    let i = c.loop-binding.binding-index in
+    let b = c.binding-item.result in
+    let mid = c.loop-binding.scope in
+    let found = c.expression-found.result in
+    let there = c.expression-found.new.scope in
+    let kept = c.expression-found.ensures.kept in
+    let h = c.loop-binding.invariant in
+    elim c.match-bind.branch [
+      | values-in-Ok w ↦
+          let bound = subst (λ r. OnOk r (scope_of c.bind.new.self ≡ inside (scope_of there) b.name.text (ty_of c.shown-ty.result))) w.in-Ok.is c.bind.ensures.bound in
+          let field : rust_field.FieldDef = record { name = b.name.text; ty = c.shown-ty.result } in
+          let added = subst (λ r. OnOk r (c.bind.new.self ≡ record there { locals = there.locals ++ field ∷ [] })) w.in-Ok.is c.bind.ensures.added in
+          let inner =
+          bound ∙ (ap (inside (scope_of there) b.name.text) c.shown-ty.ensures
+          ∙ ap (λ (z : rust_scope.Scope). inside (scope_of z) b.name.text (shown (scope_of z) found)) kept) in (
+            subst (JudgesValues s (take (i + 1) bs) (scope_of c.bind.new.self)) (sym w.so_far-is)
+                (values_step s bs i b (scope_of mid) (scope_of c.bind.new.self) c.loop-binding.so_far found w.with_value.result c.loop-binding-test.true
+                c.binding-item.is h.0 c.expression-found.ensures.judged w.with_value.ensures inner),
+            within_more c.args.scope.now mid c.bind.new.self field h.1
+                (added ∙ ap (λ (z : rust_scope.Scope). record z { locals = z.locals ++ field ∷ [] }) kept),
+          )
+      | values-in-Err w ↦
+          let unchanged = subst (λ r. OnErr r (c.bind.new.self ≡ there)) w.in-Err.is c.bind.ensures.unchanged in (
+            subst (JudgesValues s (take (i + 1) bs) (scope_of c.bind.new.self)) (sym w.so_far-is) (inl refl),
+            subst (IsWithin c.args.scope.now) (sym (unchanged ∙ kept)) h.1,
+          )
+    ]
+
+pub binding-returns-clause-judged : goal.binding-returns-clause-judged
+binding-returns-clause-judged t c = λ at offset.
+    let s = scope_of c.args.scope.now in
+    let inner = scope_of c.values-values.new.scope in
     let w = want_of c.args.want in
-    let x = c.args.name.now in
-    let v = c.expression-a.result in
-    let u = c.expression-b.result in
-    let n = c.shown-ty.ensures ∙ ap (λ s. shown (scope_of s) v) c.expression-a.ensures.kept in
-    let e =
-    c.in-Ok.ensures.bound ∙ (ap (λ s. inside (scope_of s) x.text (ty_of c.shown-ty.result)) c.expression-a.ensures.kept ∙ ap (λ n. inside s x.text n) n) in
-    let_node at offset s w x c.args.value.now c.args.body.now v u c.joined.result c.bound.result
-    (subst (λ a. Judges s None a v) c.get.ensures c.expression-a.ensures.judged)
-    (subst (λ s. Judges s w c.args.body.now u) e (subst (λ b. Judges (scope_of c.bind.new.self) w b u) c.get-in-Ok.ensures c.expression-b.ensures.judged))
-    c.joined.ensures c.bound.ensures
+    let_node at offset s w c.args.bindings.now c.args.body.now inner c.values-values.result c.expression-found.result c.joined.result c.bound.result
+    c.values-values.ensures.judged (subst (λ a. Judges inner w a c.expression-found.result) c.get.ensures c.expression-found.ensures.judged) c.joined.ensures c.bound.ensures
+
+pub binding-returns-clause-kept : goal.binding-returns-clause-kept
+binding-returns-clause-kept t c =
+    left_again c.args.scope.now c.values-values.new.scope c.leave.new.self c.len-outer.result c.values-values.ensures.kept c.len-outer.ensures
+    (c.leave.ensures.locals ∙ ap (λ (z : rust_scope.Scope). take c.len-outer.result z.locals) c.expression-found.ensures.kept)
+    (c.leave.ensures.same ∙ ap (λ (z : rust_scope.Scope). record z { locals = c.leave.new.self.locals }) c.expression-found.ensures.kept)

@@ -1,11 +1,10 @@
 use Rattle.std.proofs.Common.{◌∙◌, ◌-◌, ap, sym, map}
-use Rattle.txs_values.proofs.Written.{value_of-cons}
 use Rattle.std.proofs.lemmas.Result.{err_from_is_err_and}
 use Rattle.txs_values.proofs.ReadSteps.{enclosed, no-fields, stopped-after}
 use Rattle.txs_values.specs.Reading.{ok, after, arguments_read, value_read}
 use Rattle.txs_values.specs.TableView.{field_of}
 use Rattle.txs_values.specs.Value.{cons, packed}
-use Rattle.txs_values.specs.View.{value_of, values_of}
+use Rattle.txs_values.specs.View.{values_of}
 use Rattle.txs_values.proofs.reading.+value.Goals as goal
 
 pub fields_behind-returns-in_err-values-in-len1-up : goal.fields_behind-returns-in_err-values-in-len1-up
@@ -17,10 +16,10 @@ fields_behind-returns-in_err-values-in-len1-up t c =
 
 pub fields_behind-returns-in_ok-made_of-in-empty : goal.fields_behind-returns-in_ok-made_of-in-empty
 fields_behind-returns-in_ok-made_of-in-empty t c = no-fields c.args.table.now c.args.left c.args.id c.args.fields.now c.args.bytes.now c.in-empty.len_below
-    ∙ ap (λ v. ok v c.args.bytes.now) (sym (ap value_of c.in_ok-made_of-in-empty.ensures ∙ value_of-cons c.args.id c.new.result ∙ ap (λ l. cons c.args.id (packed (values_of l))) c.new.ensures))
+    ∙ ap (λ v. ok v c.args.bytes.now) (sym (c.in_ok-made_of-in-empty.ensures ∙ ap (λ l. cons c.args.id (packed (values_of l))) c.new.ensures))
 
 pub fields_behind-returns-in_ok-made_of-in-len1-up : goal.fields_behind-returns-in_ok-made_of-in-len1-up
 fields_behind-returns-in_ok-made_of-in-len1-up t c =
     enclosed c.args.table.now c.args.left c.args.id c.args.fields.now c.args.bytes.now c.in_ok-rest-in-len1-up.rest.now c.in-len1-up.len_at_least c.if-left-eq0.false c.in_ok-rest-in-len1-up.ensures
     ∙ ap (λ o. after o (λ vs end. ok (cons c.args.id (packed vs)) end)) c.in_ok-values-in-len1-up.ensures
-    ∙ ap (λ v. ok v c.in_ok-values-in-len1-up.end.now) (sym (ap value_of c.in_ok-made_of-in-len1-up.ensures ∙ value_of-cons c.args.id c.in_ok-values-in-len1-up.values))
+    ∙ ap (λ v. ok v c.in_ok-values-in-len1-up.end.now) (sym c.in_ok-made_of-in-len1-up.ensures)

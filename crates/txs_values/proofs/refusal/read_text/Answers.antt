@@ -6,10 +6,10 @@ use Rattle.txs_values.proofs.spellings.Lone.{lone-read, lone-same, lone-unbroken
 use Rattle.txs_values.proofs.refusal.read_text.Goals as goal
 
 pub returns-then-size_of-gt-VALUE_SIZE_LIMIT-clause-exact : goal.returns-then-size_of-gt-VALUE_SIZE_LIMIT-clause-exact
-returns-then-size_of-gt-VALUE_SIZE_LIMIT-clause-exact c named =
+returns-then-size_of-gt-VALUE_SIZE_LIMIT-clause-exact c =
     let t = ty_of c.args.ty in
     let v = value_of c.in-Ok.value in
-    inr (λ w u s a.
+    inr (λ named w u s a.
     let e = lone-same c.args.table.now t named c.args.bytes.now v w c.in-Ok.ensures s in
     not-small v (big-from v c.size_of.result _ c.size_of.ensures c.if-size_of-gt-VALUE_SIZE_LIMIT.true) (rw e a.small))
 
@@ -20,14 +20,14 @@ pub fault-requires : goal.fault-requires
 fault-requires c = lone-unbroken c.args.table.now (ty_of c.args.ty) c.args.bytes.now c.in-Err-At.kind c.in-Err-At.left (stopped-at c.in-Err-At.field-0 c.in-Err-At.kind c.in-Err-At.left (lone_read c.args.table.now (ty_of c.args.ty) c.args.bytes.now) c.in-Err-At.field-0-is c.in-Err-At.ensures) c.requires
 
 pub returns-else-size_of-gt-VALUE_SIZE_LIMIT-clause-exact : goal.returns-else-size_of-gt-VALUE_SIZE_LIMIT-clause-exact
-returns-else-size_of-gt-VALUE_SIZE_LIMIT-clause-exact c named =
+returns-else-size_of-gt-VALUE_SIZE_LIMIT-clause-exact c =
     let v = value_of c.in-Ok.value in
     let r = lone-read c.args.table.now (ty_of c.args.ty) c.args.bytes.now c.args.bytes.now v c.in-Ok.ensures (small-from v c.size_of.result _ c.size_of.ensures (omega arith) c.if-size_of-gt-VALUE_SIZE_LIMIT.false) in
     (c.requires, r.0, r.1)
 
 pub returns-in-Err-At-clause-exact : goal.returns-in-Err-At-clause-exact
-returns-in-Err-At-clause-exact c named =
-    inr (λ v u s a. lone-allowed c.args.table.now (ty_of c.args.ty) named c.args.bytes.now c.in-Err-At.kind c.in-Err-At.left (stopped-at c.in-Err-At.field-0 c.in-Err-At.kind c.in-Err-At.left (lone_read c.args.table.now (ty_of c.args.ty) c.args.bytes.now) c.in-Err-At.field-0-is c.in-Err-At.ensures) u v s a)
+returns-in-Err-At-clause-exact c =
+    inr (λ named v u s a. lone-allowed c.args.table.now (ty_of c.args.ty) named c.args.bytes.now c.in-Err-At.kind c.in-Err-At.left (stopped-at c.in-Err-At.field-0 c.in-Err-At.kind c.in-Err-At.left (lone_read c.args.table.now (ty_of c.args.ty) c.args.bytes.now) c.in-Err-At.field-0-is c.in-Err-At.ensures) v s a)
 
 pub returns-in-Err-At-clause-text : goal.returns-in-Err-At-clause-text
 returns-in-Err-At-clause-text c e =
