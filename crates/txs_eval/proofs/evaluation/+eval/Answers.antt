@@ -2,10 +2,12 @@ use Rattle.std.proofs.Common.{IfErr, ◌≡◌, ◌-◌, ◌<◌, ◌≤◌, [],
 use Rattle.std.proofs.lemmas.Result.{err_from_is_err_and}
 use Rattle.txs_values.specs.Value.{bool}
 use Rattle.txs_values.specs.View.{values_of}
-use Rattle.txs_terms.specs.Eval.{got, bad, gots, bads}
+use Rattle.txs_terms.specs.Expr.{Expr}
+use Rattle.txs_terms.specs.Eval.{Run, got, bad, gots, bads}
+use Rattle.txs_terms.proofs.Views.{at_let}
 use Rattle.txs_terms.specs.Defs.{bodies}
 use Rattle.txs_terms.specs.Under.{each_under, node_bare, run_bare}
-use Rattle.txs_terms.specs.View.{definitions_of, expr_of, exprs_of}
+use Rattle.txs_terms.specs.View.{definitions_of, expr_of, exprs_of, bounds_of, let_all}
 use Rattle.txs_eval.specs.Answer.{Ends, EndEach, Stopped, around}
 use Rattle.txs_eval.proofs.Nodes.{spread, constant_is, constant_missing, called, call_missing, call_stopped}
 use Rattle.txs_eval.proofs.Steps.{run_node}
@@ -85,6 +87,12 @@ build-returns-clause-value t c =
     let run = run_bare (bodies (definitions_of c.args.frame.defs.now)) c.args.frame.left (around c.args.frame.slots.now c.args.locals.now) in
     rw (spread (exprs_of c.args.args.now))
     (c.built.ensures.value _ (subst (λ l. EndEach c.each-found.result (each_under run (exprs_of l) c.args.nodes)) c.as_slice.ensures c.each-found.ensures.value))
+
+pub value_at-returns-in-Let-clause-value : goal.value_at-returns-in-Let-clause-value
+value_at-returns-in-Let-clause-value t c =
+    let run : Expr → Run = λ e. run_bare (bodies (definitions_of c.args.frame.defs.now)) c.args.frame.left (around c.args.frame.slots.now c.args.locals.now) e c.args.nodes in
+    subst (λ e. Ends c.let_in.result (run e)) (sym (ap expr_of c.in-Let.is ∙ at_let c.in-Let.bindings c.in-Let.body) ∙ c.past_empty-expr.ensures.same)
+    (rw (c.as_slice.ensures, c.get.ensures) at c.let_in.ensures.value)
 
 pub value_at-returns : goal.value_at-returns
 value_at-returns t c =
